@@ -1,0 +1,6 @@
+pub mod Spelling
+pub mod Lookup
+pub mod Pieces
+pub mod Lexeme
+pub mod Refusals
+pub mod Cutting
