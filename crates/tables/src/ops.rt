@@ -43,14 +43,14 @@ impl<'a, T: Copy> Table<'a, T> {
     pub fn len(&self) -> usize
         ensures { λ r. ⌜ r ≡ length (itemsOf (now (self .entry))) ⌝ }
     {
-        self.len.min(self.slots.len())
+        self.len.min(self.capacity())
     }
 
     /// How many slots are left.
     pub fn remaining(&self) -> usize
         ensures { λ r. ⌜ r ≡ length (spare (now (self .entry))) ⌝ }
     {
-        self.slots.len().saturating_sub(self.len)
+        self.capacity().saturating_sub(self.len)
     }
 
     /// Adds `x` behind the items. Refuses, and leaves the table as it was, where no slot is left.
@@ -84,7 +84,11 @@ impl<'a, T: Copy> Table<'a, T> {
         ensures { λ r. ⌜ BySome r (length (itemsOf (now (self .entry))) ≤ i) (λ x. (i < length (itemsOf (now (self .entry)))) × (x ≡ getD (itemsOf (now (self .entry))) i x)) ⌝ }
     {
         let items = self.items();
-        if i < items.len() { Some(items[i]) } else { None }
+        if i < items.len() {
+            Some(items[i])
+        } else {
+            None
+        }
     }
 
     /// Replaces the item at `i`. Says whether there is one, and changes nothing where there is none.

@@ -6,7 +6,6 @@ use mathlib.Core.Path.{_≡_, refl, sym, ap, subst, _∙_}
 use mathlib.Core.Bool.{Bool, true, false, not, _&&_, _||_}
 use mathlib.Core.Logic.{_⊎_, inl, inr, ⊎-elim}
 use mathlib.Core.List.{List, [], _∷_}
-use lib.Chars.{codes}
 use lib.Dec.{eqb}
 use lib.ListN.{length, getD, take}
 use Rattle.std.proofs.shelf.Lists.{getD-take, length-take, length-take-le, getD-past}
@@ -18,7 +17,7 @@ use Rattle.tokens.specs.declared.Kind.the-variants as kind
 use Rattle.tokens.specs.Spelling.{spelling}
 use Rattle.tokens.specs.Pieces.{separates, letter, digit, wordByte, every, word, digits, Name, Spells, Formed, Longest, OpensComment, Comment, Begins, Bad}
 use Rattle.tokens.specs.Lookup.{Sign, Front, NoSign, LongestSign}
-use Rattle.tokens.specs.Cutting.{Run, NoRun, Skipped}
+use Rattle.tokens.specs.Cutting.{Run, NameRule, NoRun, Skipped}
 use Rattle.tokens.proofs.Listed.{first, some, no-digit, no-separator, is-word, same-spelling}
 
 -- which first bytes exclude each other
@@ -119,10 +118,10 @@ module _ (p : ℕ → Bool) (bs : List ℕ) (n : ℕ) (none : p 0 ≡ false) (st
     within = r .within;
     formed = f;
     longest = λ m lt le g.
-      let e = h (take m bs) (front-first m (omega arith)) g in
-      let long = length-take-le m bs le in
-      let inside : n < length (take m bs) = omega arith in
-      both-ways _ (r .stops (omega arith)) (subst (λ b. p b ≡ true) (getD-take m bs n 0 lt) (every-at p (take m bs) n inside e));
+        let e = h (take m bs) (front-first m (omega arith)) g in
+        let long = length-take-le m bs le in
+        let inside : n < length (take m bs) = omega arith in
+        both-ways _ (r .stops (omega arith)) (subst (λ b. p b ≡ true) (getD-take m bs n 0 lt) (every-at p (take m bs) n inside e));
   }
 
 -- no comment opens with another byte than `-`
@@ -155,15 +154,15 @@ module _ (bs : List ℕ) (n : ℕ) (l : letter (getD bs 0 0) ≡ true) (r : Run 
   pub word-begins : (k : Kind) → Spells k (take n bs) → Begins k bs n
   word-begins k s = record { no-comment = no-opening letter bs l refl; longest = word-longest; spells = s }
 
-  pub name-begins : ((m : Mark) → word (spelling m) ≡ true → spelling m ≡ take n bs → ⊥) → n ≤ 32 → (take 3 (take n bs) ≡ codes "mk_" → ⊥) → Begins kind.Name bs n
-  name-begins free short no-mk = word-begins kind.Name (record {
+  pub name-begins : ((m : Mark) → word (spelling m) ≡ true → spelling m ≡ take n bs → ⊥) → NameRule (take n bs) → Begins kind.Name bs n
+  name-begins free rule = word-begins kind.Name (record {
     is-word = front-word;
-    short = subst (λ k. k ≤ 32) (sym (length-take-le n bs (r .within))) short;
+    short = rule .short;
     free = λ m e. free m (subst (λ v. word v ≡ true) (sym e) front-word) e;
-    no-mk = no-mk;
+    no-mk = rule .no-mk;
   })
 
-  pub word-bad : ((m : Mark) → word (spelling m) ≡ true → spelling m ≡ take n bs → ⊥) → (n ≤ 32 → take 3 (take n bs) ≡ codes "mk_") → Bad bs
+  pub word-bad : ((m : Mark) → word (spelling m) ≡ true → spelling m ≡ take n bs → ⊥) → (NameRule (take n bs) → ⊥) → Bad bs
   word-bad free breaks = record {
     some = text-some wordByte bs n refl starts-word r;
     no-separator = letter-no-separator (getD bs 0 0) l;
@@ -173,7 +172,7 @@ module _ (bs : List ℕ) (n : ℕ) (l : letter (getD bs 0 0) ≡ true) (r : Run 
     where
       no-kind : (k : Kind) → Spells k (take n bs) → ⊥
       no-kind (kind.Mark m) e = free m (subst (λ v. word v ≡ true) (sym e) front-word) e
-      no-kind kind.Name s = s .no-mk (breaks (subst (λ k. k ≤ 32) (length-take-le n bs (r .within)) (s .short)))
+      no-kind kind.Name s = breaks (record { short = s .short; no-mk = s .no-mk })
       no-kind kind.Numeral s = letter-no-digit (first (take n bs)) letter-word-first (digits-first (take n bs) s)
 
 -- a text that begins with a digit
@@ -208,10 +207,10 @@ module _ (bs : List ℕ) (some-byte : 0 < length bs) (h : NoRun (getD bs 0 0)) (
       within = le;
       formed = inl (m, sym (l .front));
       longest = λ k lt inside f.
-        let s = sign-of k f in
-        let long = l .longest (s .0) (s .1 .1) (in-front (s .0) k inside (s .1 .0)) in
-        let same = ap length (s .1 .0) ∙ length-take-le k bs inside in
-        omega arith;
+          let s = sign-of k f in
+          let long = l .longest (s .0) (s .1 .1) (in-front (s .0) k inside (s .1 .0)) in
+          let same = ap length (s .1 .0) ∙ length-take-le k bs inside in
+          omega arith;
     };
     spells = sym (l .front);
   }

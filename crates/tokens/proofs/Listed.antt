@@ -80,7 +80,6 @@ number mark.Bar = 57
 number mark.Ellipsis = 58
 number mark.Select = 59
 
-
 listed : (m : Mark) → getD marks (number m) mark.Abs ≡ m
 listed mark.Abs = refl
 listed mark.And = refl

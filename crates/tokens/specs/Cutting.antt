@@ -5,7 +5,8 @@ use mathlib.Core.Bool.{Bool, true, false, not}
 use mathlib.Core.Logic.{_⊎_}
 use mathlib.Core.List.{List, [], _∷_, _++_}
 use lib.Dec.{eqb}
-use lib.ListN.{length, getD, drop}
+use lib.Chars.{codes}
+use lib.ListN.{length, getD, take, drop}
 use Rattle.std.specs.declared.option.Option.{Option}
 use Rattle.std.specs.declared.option.Option.the-variants.{Some, None}
 use Rattle.std.specs.declared.result.Result.{Result}
@@ -31,6 +32,11 @@ pub record Run (p : ℕ → Bool) (bs : List ℕ) (n : ℕ) : Type 0 where
   pub within : n ≤ length bs
   pub all : (i : ℕ) → i < n → p (getD bs i 0) ≡ true
   pub stops : n < length bs → p (getD bs n 0) ≡ false
+
+-- what is asked of a name beyond being a word that is not reserved
+pub record NameRule (w : List ℕ) : Type 0 where
+  pub short : length w ≤ 32
+  pub no-mk : take 3 w ≡ codes "mk_" → ⊥
 
 -- neither a separator nor a word nor a numeral begins with this byte
 pub record NoRun (b : ℕ) : Type 0 where

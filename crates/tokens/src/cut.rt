@@ -2,13 +2,12 @@
 ghost use Prim.Native.Nat.{_<_, _≤_};
 ghost use mathlib.Core.Path.{_≡_};
 ghost use mathlib.Core.List.{[], _∷_, _++_};
-ghost use lib.ListN.{length, getD, drop, take};
+ghost use lib.ListN.{length, getD, drop};
 ghost use Rattle.tables.specs.Items.{items, spare};
-ghost use lib.Chars.{codes};
 ghost use mathlib.Core.Bool.{true};
-ghost use Rattle.std.specs.Orderings.{Decides};
+ghost use Rattle.std.specs.Orderings.{When};
 ghost use Rattle.tokens.specs.Pieces.{separates, letter};
-ghost use Rattle.tokens.specs.Cutting.{belongs as belongsTo, Run, NoRun, IsPiece, Tokenised};
+ghost use Rattle.tokens.specs.Cutting.{belongs as belongsTo, Run, NameRule, NoRun, IsPiece, Tokenised};
 use crate::Kind;
 use crate::Refusal;
 use crate::Token;
@@ -76,7 +75,7 @@ fn word(bytes: &[u8]) -> Piece
     match marks::reserved(word) {
         Some(mark) => Piece::Token(Kind::Mark(mark), len),
         None => {
-            if len <= NAME_MAX && !begins_mk(word) {
+            if obeys_rule(word) {
                 Piece::Token(Kind::Name, len)
             } else {
                 Piece::Bad
@@ -85,11 +84,11 @@ fn word(bytes: &[u8]) -> Piece
     }
 }
 
-// Whether a word begins with `mk_`.
-fn begins_mk(word: &[u8]) -> bool
-    ensures { λ r. ⌜ Decides r (take 3 (now (word .entry)) ≡ codes "mk_") ⌝ }
+// Whether a word that is not reserved may be a name.
+fn obeys_rule(word: &[u8]) -> bool
+    ensures { λ r. ⌜ When r (NameRule (now (word .entry))) (NameRule (now (word .entry)) → ⊥) ⌝ }
 {
-    word.starts_with(b"mk_")
+    word.len() <= NAME_MAX && !word.starts_with(b"mk_")
 }
 
 // A text that begins with neither a letter nor a digit nor a separator: a comment, a sign, or nothing of the language.

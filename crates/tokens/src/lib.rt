@@ -4,7 +4,6 @@ mod marks;
 
 pub use cut::tokenise;
 pub use marks::spelling;
-
 ghost use mathlib.Core.Path.{_≡_};
 ghost use Rattle.tokens.specs.Refusals.{told as toldOf};
 use syntax::Refused;
@@ -106,8 +105,14 @@ impl Refusal {
         ensures { λ r. ⌜ r ≡ toldOf self ⌝ }
     {
         match self {
-            Refusal::TooLong => Refused { number: 1, place: None },
-            Refusal::NoToken(place) => Refused { number: 2, place: Some(place) },
+            Refusal::TooLong => Refused {
+                number: 1,
+                place: None,
+            },
+            Refusal::NoToken(place) => Refused {
+                number: 2,
+                place: Some(place),
+            },
         }
     }
 }

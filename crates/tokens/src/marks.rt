@@ -81,11 +81,43 @@ fn of_length(len: usize) -> &'static [Mark]
     ensures { λ r. ⌜ now r ≡ ofLength len ⌝ }
 {
     match len {
-        2 => &[Mark::Be, Mark::Hd, Mark::If, Mark::In, Mark::Or, Mark::St, Mark::Tl],
-        3 => &[Mark::Abs, Mark::And, Mark::Div, Mark::End, Mark::Len, Mark::Let, Mark::Mk, Mark::Mod, Mark::Not, Mark::Rem, Mark::Set],
+        2 => &[
+            Mark::Be,
+            Mark::Hd,
+            Mark::If,
+            Mark::In,
+            Mark::Or,
+            Mark::St,
+            Mark::Tl,
+        ],
+        3 => &[
+            Mark::Abs,
+            Mark::And,
+            Mark::Div,
+            Mark::End,
+            Mark::Len,
+            Mark::Let,
+            Mark::Mk,
+            Mark::Mod,
+            Mark::Not,
+            Mark::Rem,
+            Mark::Set,
+        ],
         4 => &[Mark::Card, Mark::Else, Mark::Inds, Mark::Then, Mark::True],
-        5 => &[Mark::Cases, Mark::Elems, Mark::False, Mark::Inter, Mark::Union],
-        6 => &[Mark::Elseif, Mark::Exists, Mark::Forall, Mark::Others, Mark::Subset],
+        5 => &[
+            Mark::Cases,
+            Mark::Elems,
+            Mark::False,
+            Mark::Inter,
+            Mark::Union,
+        ],
+        6 => &[
+            Mark::Elseif,
+            Mark::Exists,
+            Mark::Forall,
+            Mark::Others,
+            Mark::Subset,
+        ],
         7 => &[Mark::Psubset],
         _ => &[],
     }
