@@ -2,3 +2,4 @@ pub mod Listed
 pub mod Forms
 pub mod Turns
 pub mod Unique
+pub mod Scan

@@ -1,0 +1,11 @@
+pub mod Runs
+pub mod Tokens
+pub mod Meets
+pub mod Table
+pub mod Follow
+pub mod Complete
+pub mod Sentences
+pub mod Exec
+pub mod Examples
+pub mod Places
+pub mod Paths

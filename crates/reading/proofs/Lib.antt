@@ -1,0 +1,4 @@
+pub mod Looking
+pub mod Held
+pub mod Ways
+pub mod Ranks

@@ -1,0 +1,3 @@
+pub mod Entries
+pub mod Signs
+pub mod Sources
