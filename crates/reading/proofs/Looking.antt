@@ -3,7 +3,8 @@ use Prim.Native.Nat.{ℕ, _+_, _≤_, _<_}
 use mathlib.Core.Path.{_≡_, refl, sym, ap, subst, _∙_}
 use mathlib.Core.Bool.{Bool, true, false, cond, _||_}
 use mathlib.Core.List.{List, [], _∷_, map}
-use lib.ListN.{length, drop, getD}
+use native.Mathlib.Nat.{not-suc-le-zero}
+use lib.ListN.{length, drop, getD, length-drop}
 use Rattle.std.specs.declared.option.Option.{Option}
 use Rattle.std.specs.declared.option.Option.the-variants.{Some, None}
 use Rattle.std.specs.Options.{Cases}
@@ -17,6 +18,7 @@ use Rattle.tokens.specs.declared.Mark.the-variants as sign
 use Rattle.syntax.specs.declared.Quantifier.the-variants as quant
 use Rattle.grammar.specs.Steps.{Test, is, is-truth, is-quantifier, first, Misses}
 use Rattle.reading.specs.Signs.{Tells}
+use Rattle.reading.specs.Reading.{placeOr, badPlace}
 use Rattle.reading.specs.declared.source.Source.{Source}
 use Rattle.reading.specs.Sources.{from, size, Sees, TokenAt, Finds, Found, IsTruth, IsQuantifier, Shows, placeOf, placeAt}
 
@@ -95,3 +97,17 @@ no-quantifier-seen s n a b = neither-seen s n sign.Forall sign.Exists a b
 -- the place of the token at hand
 pub place-here : (s : Source) (n : ℕ) (x : Test) (h : Sees s n x) → placeAt s n ≡ h .token .place
 place-here s n x h = ap (λ us. placeOf (first us)) (h .here)
+
+-- a place, or the text's length
+pub bad-here : (s : Source) (n : ℕ) (r : ℕ) → n < size s → r ≡ placeAt s n → r ≡ badPlace s n
+bad-here s n r h e = e ∙ go (from s n) (in-text-some s n h)
+  where
+    go : (us : List Lexeme) → 0 < length us → placeOf (first us) ≡ placeOr (length (s .text .now)) (first us)
+    go [] l = absurd (not-suc-le-zero l)
+    go (x ∷ us) l = refl
+
+    in-text-some : (s : Source) (n : ℕ) → n < size s → 0 < length (from s n)
+    in-text-some s n h = omega (arith, length-drop n (map (lexeme (s .text .now)) (s .tokens .now)), length-map (s .tokens .now) (lexeme (s .text .now)))
+
+pub bad-end : (s : Source) (n : ℕ) → size s ≤ n → length (s .text .now) ≡ badPlace s n
+bad-end s n h = sym (ap (λ us. placeOr (length (s .text .now)) (first us)) (past-text s n h))

@@ -101,11 +101,11 @@ module _ {i : Job} {q : Prog (Result i)} {s : Source} {n : ℕ} {far : Bool} {δ
   less d w h = record { step = w .step; kept = w .kept; few = omega (arith, w .few); slots = w .slots; forth = w .forth; inside = w .inside }
 
   -- the ends: a call that refused, a token that was missed, a value
-  pub lost-call : {j : Job} {k : Result j → Prog (Result i)} {m l : ℕ} {far′ : Bool} {t′ : Table Entry} {c : ℕ} → Reached i q s n far δ t (call j k) m far′ t′ c → Lost j (body j) s m far′ l → Lost i q s n far l
-  lost-call w g = record { then = g .then; run = w .step _ (r-fails (g .run)); inside = g .inside }
+  pub lost-call : {j : Job} {k : Result j → Prog (Result i)} {m l : ℕ} {far′ : Bool} {t′ t″ : Table Entry} {c : ℕ} → Reached i q s n far δ t (call j k) m far′ t′ c → Lost j (body j) s m far′ t′ t″ l → Lost i q s n far t t″ l
+  lost-call w g = record { then = g .then; run = w .step _ (r-fails (g .run)); slots = g .slots ∙ w .slots; inside = g .inside }
 
-  pub lost-want : {x : Test} {k : Lexeme → Prog (Result i)} {m e : ℕ} {far′ : Bool} {t′ : Table Entry} {c : ℕ} → Reached i q s n far δ t (want x k) m far′ t′ c → (h : Misses x (first (from s m)) × (e ≡ m)) → Lost i q s n far e
-  lost-want {e} {far′ = far′} w h = subst (Lost i q s n far) (sym (h .1)) (record { then = far′; run = w .step _ (r-refuse (h .0)); inside = w .inside })
+  pub lost-want : {x : Test} {k : Lexeme → Prog (Result i)} {m e : ℕ} {far′ : Bool} {t′ : Table Entry} {c : ℕ} → Reached i q s n far δ t (want x k) m far′ t′ c → (h : Misses x (first (from s m)) × (e ≡ m)) → Lost i q s n far t t′ e
+  lost-want {e} {far′ = far′} {t′} w h = subst (Lost i q s n far t t′) (sym (h .1)) (record { then = far′; run = w .step _ (r-refuse (h .0)); slots = w .slots; inside = w .inside })
 
   pub returned : {a : Result i} {m : ℕ} {far′ : Bool} {t′ : Table Entry} {c : ℕ} (holds : Result i → Type 0) → Reached i q s n far δ t (ret a) m far′ t′ c → holds a → Got i q s n far δ t t′ m holds
   returned {a} {far′ = far′} holds w h = record {
@@ -122,7 +122,7 @@ module _ {i : Job} {q : Prog (Result i)} {s : Source} {n : ℕ} {far : Bool} {δ
     value = g .value; then = g .then; run = w .step _ (g .run); held = g .held; kept = then-more (w .kept) (g .kept);
     few = omega (arith, w .few, g .few); slots = g .slots ∙ w .slots; on = omega (arith, w .forth, g .on); inside = g .inside;
   }
-  tail t″ d next holds (Err m) w h g = record { then = g .then; run = w .step _ (g .run); inside = g .inside }
+  tail t″ d next holds (Err m) w h g = record { then = g .then; run = w .step _ (g .run); slots = g .slots ∙ w .slots; inside = g .inside }
 
   -- a call whose value is the value
   pub tail-call : {N : Type 0} {j : Job} {m : ℕ} {far′ : Bool} {t′ : Table Entry} {c : ℕ} (f : Result j → Result i) (t″ : Table Entry) (d : ℕ) (next : N → ℕ) (holds : List Entry → N → Result i → Type 0) (r : result.Result N ℕ) → Reached i q s n far δ t (call j (λ v. ret (f v))) m far′ t′ c → d ≤ c → Came j (body j) s m far′ d t′ t″ next (λ es x v. holds es x (f v)) r → Came i q s n far δ t t″ next holds r
@@ -130,7 +130,7 @@ module _ {i : Job} {q : Prog (Result i)} {s : Source} {n : ℕ} {far : Bool} {δ
     value = f (g .value); then = g .then; run = w .step _ (r-call (g .run) r-ret); held = g .held; kept = then-more (w .kept) (g .kept);
     few = omega (arith, w .few, g .few); slots = g .slots ∙ w .slots; on = omega (arith, w .forth, g .on); inside = g .inside;
   }
-  tail-call f t″ d next holds (Err m) w h g = record { then = g .then; run = w .step _ (r-fails (g .run)); inside = g .inside }
+  tail-call f t″ d next holds (Err m) w h g = record { then = g .then; run = w .step _ (r-fails (g .run)); slots = g .slots ∙ w .slots; inside = g .inside }
 
   -- there are slots for what is read from here on
   pub fits : {p : Prog (Result i)} {m : ℕ} {far′ : Bool} {t′ : Table Entry} {c : ℕ} (d : ℕ) → Reached i q s n far δ t p m far′ t′ c → Fits s n δ t → d ≤ c → Fits s m d t′

@@ -1,3 +1,4 @@
 pub mod Entries
 pub mod Signs
 pub mod Sources
+pub mod Reading

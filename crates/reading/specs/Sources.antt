@@ -133,14 +133,15 @@ pub record Got (i : Job) (p : Prog (steps.Result i)) (s : Source) (n : ℕ) (far
   pub inside : m ≤ size s
 
 -- it refuses at token number m
-pub record Lost (i : Job) (p : Prog (steps.Result i)) (s : Source) (n : ℕ) (far : Bool) (m : ℕ) : Type 0 where
+pub record Lost (i : Job) (p : Prog (steps.Result i)) (s : Source) (n : ℕ) (far : Bool) (t t′ : Table Entry) (m : ℕ) : Type 0 where
   pub then : Bool
   pub run : Run i p (from s n) far (out None (from s m) then)
+  pub slots : room t′ ≡ room t
   pub inside : m ≤ size s
 
 abbrev pub Came : {N : Type 0} (i : Job) → Prog (steps.Result i) → Source → ℕ → Bool → ℕ → Table Entry → Table Entry → (N → ℕ) → (List Entry → N → steps.Result i → Type 0) → Result N ℕ → Type 0
 Came i p s n far k t t′ next holds (Ok r) = Got i p s n far k t t′ (next r) (holds (items t′) r)
-Came i p s n far k t t′ next holds (Err m) = Lost i p s n far m
+Came i p s n far k t t′ next holds (Err m) = Lost i p s n far t t′ m
 
 -- trees and patterns that were read, alone and in lists
 abbrev pub TreeAt : Source → List Entry → Read → Tree → Type 0

@@ -2,8 +2,12 @@
 mod entry;
 mod expressions;
 mod patterns;
+mod call;
 mod signs;
 mod source;
 
 pub use entry::Entry;
 pub use entry::Span;
+pub use call::Draft;
+pub use call::Refusal;
+pub use call::read;

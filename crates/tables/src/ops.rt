@@ -1,9 +1,9 @@
 ghost use mathlib.Core.Bool.{cond, false};
 ghost use mathlib.Core.Path.{_≡_};
 ghost use mathlib.Core.List.{[], _∷_, _++_};
-ghost use Prim.Native.Nat.{_+_, _<_, _≤_};
+ghost use Prim.Native.Nat.{_+_, _-_, _<_, _≤_};
 ghost use lib.Dec.{ltb};
-ghost use lib.ListN.{length, getD, drop, replicate};
+ghost use lib.ListN.{length, getD, take, drop, replicate};
 ghost use lib.ListN.{set as replaced};
 ghost use Rattle.std.specs.Results.{isOk};
 ghost use Rattle.std.specs.Options.{Cases as BySome};
@@ -14,12 +14,15 @@ use crate::Table;
 #[derive(Clone, Copy, Debug)]
 pub struct Full;
 
-// Writes `x` into every slot.
-fn fill<T: Copy>(slots: &mut [T], x: T)
-    ensures { λ _. ⌜ now (slots .exit) ≡ replicate (length (now (slots .entry))) x ⌝ }
+// Writes `x` into every slot from `start` on.
+fn fill<T: Copy>(slots: &mut [T], start: usize, x: T)
+    requires { ⌜ start ≤ length (now slots) ⌝ }
+    ensures { λ _. ⌜ now (slots .exit) ≡ take start (now (slots .entry)) ++ replicate (length (now (slots .entry)) - start) x ⌝ }
 {
-    for slot in slots.iter_mut() {
-        *slot = x;
+    let mut i = start;
+    while i < slots.len() {
+        slots[i] = x;
+        i += 1;
     }
 }
 
@@ -28,6 +31,7 @@ impl<'a, T: Copy> Table<'a, T> {
     pub fn make(slots: &'a mut [T]) -> Table<'a, T>
         ensures items { λ r. ⌜ itemsOf r ≡ [] ⌝ }
         ensures spare { λ r. ⌜ spare r ≡ now (slots .entry) ⌝ }
+        ensures room { λ r. ⌜ room r ≡ length (now (slots .entry)) ⌝ }
     {
         Table { slots, len: 0 }
     }
@@ -111,7 +115,24 @@ impl<'a, T: Copy> Table<'a, T> {
         ensures items { λ _. ⌜ itemsOf (now (self .exit)) ≡ [] ⌝ }
         ensures slots { λ _. ⌜ slotsOf (now (self .exit)) ≡ replicate (room (now (self .entry))) empty ⌝ }
     {
-        fill(self.slots, empty);
+        fill(self.slots, 0, empty);
         self.len = 0;
+    }
+
+    /// Writes `empty` into every slot that is left.
+    pub fn blank(&mut self, empty: T)
+        ensures items { λ _. ⌜ itemsOf (now (self .exit)) ≡ itemsOf (now (self .entry)) ⌝ }
+        ensures spare { λ _. ⌜ spare (now (self .exit)) ≡ replicate (length (spare (now (self .entry)))) empty ⌝ }
+    {
+        let start = self.len();
+        fill(self.slots, start, empty);
+    }
+
+    /// Gives the slots back.
+    pub fn release(self) -> &'a mut [T]
+        ensures { λ r. ⌜ now r ≡ slotsOf (self .entry) ⌝ }
+    {
+        let Table { slots, len: _ } = self;
+        slots
     }
 }

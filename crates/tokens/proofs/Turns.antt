@@ -99,6 +99,7 @@ ends now bad r cut answer fits = record {
     bad = bad;
     cut = cut;
     only = λ us b c. one-cutting cut c;
+    few = omega (arith, now .few, now .inside);
     added = now .added;
     rest = now .rest;
     answer = answer;

@@ -69,6 +69,7 @@ pub record CutInto (text : List ℕ) (t t′ : Table Token) (r : Result (Unit {0
   pub bad : Option ℕ
   pub cut : Cut 0 text tokens bad
   pub only : (us : List Token) (b : Option ℕ) → Cut 0 text us b → (us ≡ tokens) × (b ≡ bad)
+  pub few : length tokens ≤ length text
   pub added : items t′ ≡ items t ++ tokens
   pub rest : spare t′ ≡ drop (length tokens) (spare t)
   pub answer : Answers bad r
