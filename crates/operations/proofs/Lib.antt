@@ -1,0 +1,5 @@
+pub mod Sorts
+pub mod Outcomes
+pub mod Lawfuls
+pub mod Subjects
+pub mod Rooms

@@ -1,0 +1,6 @@
+mod Digits
+mod Lines
+mod Walk
+mod Bound
+mod Printable
+mod Distinct
