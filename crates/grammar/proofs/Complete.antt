@@ -18,7 +18,7 @@ use Rattle.syntax.specs.declared.Collection.the-variants as coll
 use Rattle.syntax.specs.Tree.{Place, Name, Pattern, Patterns, Tree, Trees, Alternatives, Optional}
 use Rattle.grammar.specs.Grammar.{_at_, _name-at_, _numeral-at_, Left, Lead, Operation, join, Infix, infix-of, Prefix, prefix-of, Sort, under, under-lead, Bracket, opening, closing, kind, truth, word, Derives, DerivesBind, DerivesItems, DerivesCases, DerivesPattern, DerivesPatterns, count, count-patterns}
 use Rattle.grammar.specs.Grammar.{p-any, p-name, p-numeral, p-truth, p-empty, p-sequence, p-tuple, p-last, p-more, d-let, d-let-be, d-if, d-cases, d-quantifier, d-connected, d-else, d-elseif, d-chain, d-link, d-implies, d-premise, d-prefix, d-bare, d-relation, d-in-set, d-not-in-set, d-side, d-apply, d-select, d-atom, d-numeral, d-truth, d-name, d-paren, d-empty, d-members, d-comprehension, d-filter, d-range, d-tuple, d-bind, d-last, d-more, d-only, d-others, d-next}
-use Rattle.grammar.specs.Steps.{code, same, Test, is, is-name, is-numeral, same-left, same-lead, infix-at, prefix-at, is-chain, is-lead, is-relation, joins, relates, leads, operation, relation-of, unary-of, Limit, any, most, several, Next, may, must, last, next, Job, parse, more, applied, bind, items, arms, pattern, patterns, Bind, Arms, Result, Prog, ret, on, want, ahead, call, closed, such-that, let-tail, cases-tail, quantifier-tail, members, after-comma, after-bar, after-first, collected, tuple-tail, right-side, member, after-item, after-pattern, sequence-tail, Out, out, first, second, Hits, Misses, body, Run, r-ret, r-on, r-off, r-want, r-refuse, r-both, r-only, r-none, r-call, r-fails}
+use Rattle.grammar.specs.Steps.{same, Test, is, is-name, is-numeral, same-left, same-lead, infix-at, prefix-at, is-chain, is-lead, is-relation, joins, relates, leads, operation, relation-of, unary-of, Limit, any, most, several, Next, may, must, last, next, Job, parse, more, applied, bind, items, arms, pattern, patterns, Bind, Arms, Result, Prog, ret, on, want, ahead, call, closed, such-that, let-tail, cases-tail, quantifier-tail, members, after-comma, after-bar, after-first, collected, tuple-tail, right-side, member, after-item, after-pattern, sequence-tail, Out, out, first, second, Hits, Misses, body, Run, r-ret, r-on, r-off, r-want, r-refuse, r-both, r-only, r-none, r-call, r-fails}
 use Rattle.grammar.proofs.Meets.{Within}
 use Rattle.grammar.proofs.Table.{same-refl, items-some, patterns-some}
 use Rattle.grammar.proofs.Follow.{level, depth, rank, StopIn, Stops, tighter, level-under, level-some, depth-lead, rank-chain, miss-chain, miss-relates, miss-mark, sign-stops, closes, in-stops, bracket-stops, hit-or-miss, height, Starts, starts, starts-items, not-first, no-lead, no-quantifier, Begins, pattern-begins, patterns-begin, begins-on, no-pattern, rank-relates}

@@ -8,6 +8,7 @@ use lib.Dec.{lit≤, eqb}
 use borrow.Author.Tests.{eq-eqb}
 use Rattle.tokens.specs.declared.Mark.{Mark}
 use Rattle.tokens.specs.declared.Mark.the-variants as sign
+use Rattle.tokens.specs.Spelling.{number}
 use Rattle.tokens.specs.Lexeme.{Symbol, Lexeme}
 use Rattle.syntax.specs.declared.Binary.the-variants as bin
 use Rattle.syntax.specs.declared.Quantifier.{Quantifier}
@@ -15,7 +16,7 @@ use Rattle.syntax.specs.declared.Quantifier.the-variants as quant
 use Rattle.syntax.specs.Tree.{Place, Name, Pattern, Patterns, Tree, Trees, Alternatives, Optional}
 use Rattle.grammar.specs.Grammar.{_at_, _name-at_, _numeral-at_, Left, Lead, Infix, infix-of, Prefix, prefix-of, Sort, under, Bracket, opening, closing, kind, word, Derives, DerivesBind, DerivesItems, DerivesCases, DerivesPattern, DerivesPatterns, count, count-patterns}
 use Rattle.grammar.specs.Grammar.{p-any, p-name, p-numeral, p-truth, p-empty, p-sequence, p-tuple, p-last, p-more, d-let, d-let-be, d-if, d-cases, d-quantifier, d-connected, d-else, d-elseif, d-chain, d-link, d-implies, d-premise, d-prefix, d-bare, d-relation, d-in-set, d-not-in-set, d-side, d-apply, d-select, d-atom, d-numeral, d-truth, d-name, d-paren, d-empty, d-members, d-comprehension, d-filter, d-range, d-tuple, d-bind, d-last, d-more, d-only, d-others, d-next}
-use Rattle.grammar.specs.Steps.{code, same, Test, is, is-name, is-numeral, joins, relates, leads, operation, relation-of, unary-of, Limit, any, most, several, next, Job, parse, more, applied, bind, items, arms, pattern, patterns, Bind, Arms, Result, Prog, ret, on, want, ahead, call, body, such-that, let-tail, cases-tail, quantifier-tail, members, after-comma, after-bar, after-first, collected, tuple-tail, right-side, member, after-item, after-pattern, sequence-tail}
+use Rattle.grammar.specs.Steps.{same, Test, is, is-name, is-numeral, joins, relates, leads, operation, relation-of, unary-of, Limit, any, most, several, next, Job, parse, more, applied, bind, items, arms, pattern, patterns, Bind, Arms, Result, Prog, ret, on, want, ahead, call, body, such-that, let-tail, cases-tail, quantifier-tail, members, after-comma, after-bar, after-first, collected, tuple-tail, right-side, member, after-item, after-pattern, sequence-tail}
 use Rattle.grammar.proofs.Tokens.{at-mark, at-either, at-name, at-numeral, at-chain, at-relation, at-lead}
 use Rattle.grammar.proofs.Meets.{Within, Derived, flag, enters, missed, Meets, m-ret, m-on, m-want, m-ahead, m-call}
 
@@ -23,7 +24,7 @@ vac : {A : Type 0} → false ≡ true → A
 vac e = absurd (false≢true e)
 
 pub same-refl : (m : Mark) → same m m ≡ true
-same-refl m = eq-eqb (code m) (code m) refl
+same-refl m = eq-eqb (number m) (number m) refl
 
 and-left : (a b : Bool) → (a && b) ≡ true → a ≡ true
 and-left true b e = refl

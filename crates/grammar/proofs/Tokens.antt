@@ -4,88 +4,18 @@ use mathlib.Core.Path.{_≡_, refl, sym, ap, subst, _∙_}
 use mathlib.Core.Bool.{Bool, true, false, cond, _||_, true≢false, false≢true}
 use mathlib.Core.List.{List, [], _∷_}
 use lib.Dec.{eqb}
-use lib.ListN.{getD}
 use borrow.Author.Tests.{true-eqb}
 use Rattle.tokens.specs.declared.Mark.{Mark}
 use Rattle.tokens.specs.declared.Mark.the-variants as sign
+use Rattle.tokens.specs.Spelling.{number}
 use Rattle.tokens.specs.Lexeme.{Symbol, Lexeme}
+use Rattle.tokens.proofs.Listed.{same-number}
 use Rattle.syntax.specs.Tree.{Place, Name}
 use Rattle.grammar.specs.Grammar.{_at_, _name-at_, _numeral-at_, Left, Lead, Infix, infix-of, Prefix, prefix-of}
-use Rattle.grammar.specs.Steps.{code, same, is, is-name, is-numeral, same-left, same-lead, infix-at, prefix-at, is-chain, is-relation, is-lead, joins, relates, leads, operation, relation-of, unary-of}
-
--- Marks are told apart by their codes
-
-marks : List Mark
-marks = sign.Abs ∷ sign.And ∷ sign.Be ∷ sign.Card ∷ sign.Cases ∷ sign.Div ∷ sign.Elems ∷ sign.Else ∷ sign.Elseif ∷ sign.End ∷ sign.Exists ∷ sign.False ∷ sign.Forall ∷ sign.Hd ∷ sign.If ∷ sign.In ∷ sign.Inds ∷ sign.Inter ∷ sign.Len ∷ sign.Let ∷ sign.Mk ∷ sign.Mod ∷ sign.Not ∷ sign.Or ∷ sign.Others ∷ sign.Psubset ∷ sign.Rem ∷ sign.Set ∷ sign.St ∷ sign.Subset ∷ sign.Then ∷ sign.Tl ∷ sign.True ∷ sign.Union ∷ sign.Iff ∷ sign.Implies ∷ sign.Equal ∷ sign.NotEqual ∷ sign.Less ∷ sign.LessEqual ∷ sign.Greater ∷ sign.GreaterEqual ∷ sign.Plus ∷ sign.Minus ∷ sign.Backslash ∷ sign.Caret ∷ sign.Star ∷ sign.OpenParen ∷ sign.CloseParen ∷ sign.OpenBracket ∷ sign.CloseBracket ∷ sign.OpenBrace ∷ sign.CloseBrace ∷ sign.Comma ∷ sign.Colon ∷ sign.Arrow ∷ sign.Ampersand ∷ sign.Bar ∷ sign.Ellipsis ∷ sign.Select ∷ []
-
-decode : ℕ → Mark
-decode n = getD marks n sign.Abs
-
-decoded : (m : Mark) → decode (code m) ≡ m
-unfolding decode marks
-decoded sign.Abs = refl
-decoded sign.And = refl
-decoded sign.Be = refl
-decoded sign.Card = refl
-decoded sign.Cases = refl
-decoded sign.Div = refl
-decoded sign.Elems = refl
-decoded sign.Else = refl
-decoded sign.Elseif = refl
-decoded sign.End = refl
-decoded sign.Exists = refl
-decoded sign.False = refl
-decoded sign.Forall = refl
-decoded sign.Hd = refl
-decoded sign.If = refl
-decoded sign.In = refl
-decoded sign.Inds = refl
-decoded sign.Inter = refl
-decoded sign.Len = refl
-decoded sign.Let = refl
-decoded sign.Mk = refl
-decoded sign.Mod = refl
-decoded sign.Not = refl
-decoded sign.Or = refl
-decoded sign.Others = refl
-decoded sign.Psubset = refl
-decoded sign.Rem = refl
-decoded sign.Set = refl
-decoded sign.St = refl
-decoded sign.Subset = refl
-decoded sign.Then = refl
-decoded sign.Tl = refl
-decoded sign.True = refl
-decoded sign.Union = refl
-decoded sign.Iff = refl
-decoded sign.Implies = refl
-decoded sign.Equal = refl
-decoded sign.NotEqual = refl
-decoded sign.Less = refl
-decoded sign.LessEqual = refl
-decoded sign.Greater = refl
-decoded sign.GreaterEqual = refl
-decoded sign.Plus = refl
-decoded sign.Minus = refl
-decoded sign.Backslash = refl
-decoded sign.Caret = refl
-decoded sign.Star = refl
-decoded sign.OpenParen = refl
-decoded sign.CloseParen = refl
-decoded sign.OpenBracket = refl
-decoded sign.CloseBracket = refl
-decoded sign.OpenBrace = refl
-decoded sign.CloseBrace = refl
-decoded sign.Comma = refl
-decoded sign.Colon = refl
-decoded sign.Arrow = refl
-decoded sign.Ampersand = refl
-decoded sign.Bar = refl
-decoded sign.Ellipsis = refl
-decoded sign.Select = refl
+use Rattle.grammar.specs.Steps.{same, is, is-name, is-numeral, same-left, same-lead, infix-at, prefix-at, is-chain, is-relation, is-lead, joins, relates, leads, operation, relation-of, unary-of}
 
 pub same-mark : (m n : Mark) → same m n ≡ true → m ≡ n
-same-mark m n e = sym (decoded m) ∙ ap decode (true-eqb (code m) (code n) (sym e)) ∙ decoded n
+same-mark m n e = same-number m n (true-eqb (number m) (number n) (sym e))
 
 same-left-eq : (l k : Left) → same-left l k ≡ true → k ≡ l
 same-left-eq Left.iff Left.iff e = refl

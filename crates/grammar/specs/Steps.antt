@@ -8,6 +8,7 @@ use Rattle.std.specs.declared.option.Option.{Option}
 use Rattle.std.specs.declared.option.Option.the-variants.{Some, None}
 use Rattle.tokens.specs.declared.Mark.{Mark}
 use Rattle.tokens.specs.declared.Mark.the-variants as sign
+use Rattle.tokens.specs.Spelling.{number}
 use Rattle.tokens.specs.Lexeme.{Symbol, Lexeme}
 use Rattle.syntax.specs.declared.Unary.{Unary}
 use Rattle.syntax.specs.declared.Unary.the-variants as un
@@ -23,70 +24,8 @@ use Rattle.grammar.specs.Grammar.{Left, Lead, Operation, join, Infix, infix-of
 
 -- Tests of a token
 
-abbrev pub code : Mark → ℕ
-code sign.Abs = 0
-code sign.And = 1
-code sign.Be = 2
-code sign.Card = 3
-code sign.Cases = 4
-code sign.Div = 5
-code sign.Elems = 6
-code sign.Else = 7
-code sign.Elseif = 8
-code sign.End = 9
-code sign.Exists = 10
-code sign.False = 11
-code sign.Forall = 12
-code sign.Hd = 13
-code sign.If = 14
-code sign.In = 15
-code sign.Inds = 16
-code sign.Inter = 17
-code sign.Len = 18
-code sign.Let = 19
-code sign.Mk = 20
-code sign.Mod = 21
-code sign.Not = 22
-code sign.Or = 23
-code sign.Others = 24
-code sign.Psubset = 25
-code sign.Rem = 26
-code sign.Set = 27
-code sign.St = 28
-code sign.Subset = 29
-code sign.Then = 30
-code sign.Tl = 31
-code sign.True = 32
-code sign.Union = 33
-code sign.Iff = 34
-code sign.Implies = 35
-code sign.Equal = 36
-code sign.NotEqual = 37
-code sign.Less = 38
-code sign.LessEqual = 39
-code sign.Greater = 40
-code sign.GreaterEqual = 41
-code sign.Plus = 42
-code sign.Minus = 43
-code sign.Backslash = 44
-code sign.Caret = 45
-code sign.Star = 46
-code sign.OpenParen = 47
-code sign.CloseParen = 48
-code sign.OpenBracket = 49
-code sign.CloseBracket = 50
-code sign.OpenBrace = 51
-code sign.CloseBrace = 52
-code sign.Comma = 53
-code sign.Colon = 54
-code sign.Arrow = 55
-code sign.Ampersand = 56
-code sign.Bar = 57
-code sign.Ellipsis = 58
-code sign.Select = 59
-
 abbrev pub same : Mark → Mark → Bool
-same m n = eqb (code m) (code n)
+same m n = eqb (number m) (number n)
 
 abbrev pub Test : Type 0
 Test = Symbol → Bool

@@ -9,7 +9,6 @@ pub mod Members
 pub mod Lawfully
 pub mod Apart
 pub mod Exact
-pub mod Cuts
 pub mod Collected
 pub mod Orders
 pub mod Cases

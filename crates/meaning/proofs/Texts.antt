@@ -33,7 +33,7 @@ use Rattle.meaning.specs.Play.{Picker, outcome, Chooser, nth, by, Assigns, All
 use Rattle.meaning.specs.Examples.{Reads, Gives, Goes, Settled, Only-allowed, Just, Under, document, Examples}
 use Rattle.meaning.proofs.Plays.{nth-in}
 use Rattle.meaning.proofs.Free.{facts-of, agree-all, naming}
-use Rattle.meaning.proofs.Cuts.{cuts, cut}
+use Rattle.tokens.proofs.Scan.{scan-cuts}
 
 -- -7 mod 3
 abbrev tree-mod-below : Tree
@@ -44,11 +44,10 @@ tokens-mod-below =
     token (kind.Mark sign.Minus) 0 1 ∷ token kind.Numeral 1 1 ∷ token (kind.Mark sign.Mod) 3 3 ∷ token kind.Numeral 7 1 ∷ []
 
 reads-mod-below : Reads (codes "-7 mod 3") tree-mod-below
-unfolding cuts
 reads-mod-below =
     record {
       tokens = tokens-mod-below;
-      cut = cut 100 0 (codes "-7 mod 3") tokens-mod-below refl;
+      cut = scan-cuts (codes "-7 mod 3") tokens-mod-below refl;
       derives =
           d-connected (d-link (d-premise (d-link (d-link (d-bare (d-side (d-link (d-chain 3 sign.Mod refl (d-link (d-prefix 0 sign.Minus refl (d-bare (d-atom (d-numeral 1))))) (d-bare (d-atom (d-numeral 7)))))))))));
     }
@@ -66,11 +65,10 @@ tokens-rem-below =
     token (kind.Mark sign.Minus) 0 1 ∷ token kind.Numeral 1 1 ∷ token (kind.Mark sign.Rem) 3 3 ∷ token kind.Numeral 7 1 ∷ []
 
 reads-rem-below : Reads (codes "-7 rem 3") tree-rem-below
-unfolding cuts
 reads-rem-below =
     record {
       tokens = tokens-rem-below;
-      cut = cut 100 0 (codes "-7 rem 3") tokens-rem-below refl;
+      cut = scan-cuts (codes "-7 rem 3") tokens-rem-below refl;
       derives =
           d-connected (d-link (d-premise (d-link (d-link (d-bare (d-side (d-link (d-chain 3 sign.Rem refl (d-link (d-prefix 0 sign.Minus refl (d-bare (d-atom (d-numeral 1))))) (d-bare (d-atom (d-numeral 7)))))))))));
     }
@@ -88,11 +86,10 @@ tokens-mod-by-below =
     token kind.Numeral 0 1 ∷ token (kind.Mark sign.Mod) 2 3 ∷ token (kind.Mark sign.Minus) 6 1 ∷ token kind.Numeral 7 1 ∷ []
 
 reads-mod-by-below : Reads (codes "7 mod -3") tree-mod-by-below
-unfolding cuts
 reads-mod-by-below =
     record {
       tokens = tokens-mod-by-below;
-      cut = cut 100 0 (codes "7 mod -3") tokens-mod-by-below refl;
+      cut = scan-cuts (codes "7 mod -3") tokens-mod-by-below refl;
       derives =
           d-connected (d-link (d-premise (d-link (d-link (d-bare (d-side (d-link (d-chain 2 sign.Mod refl (d-link (d-bare (d-atom (d-numeral 0)))) (d-prefix 6 sign.Minus refl (d-bare (d-atom (d-numeral 7))))))))))));
     }
@@ -110,11 +107,10 @@ tokens-not-equal =
     token (kind.Mark sign.Not) 0 3 ∷ token kind.Numeral 4 1 ∷ token (kind.Mark sign.Equal) 6 1 ∷ token kind.Numeral 8 1 ∷ []
 
 reads-not-equal : Reads (codes "not 1 = 2") tree-not-equal
-unfolding cuts
 reads-not-equal =
     record {
       tokens = tokens-not-equal;
-      cut = cut 100 0 (codes "not 1 = 2") tokens-not-equal refl;
+      cut = scan-cuts (codes "not 1 = 2") tokens-not-equal refl;
       derives =
           d-connected (d-link (d-premise (d-link (d-link (d-prefix 0 sign.Not refl (d-bare (d-relation 6 sign.Equal refl (d-link (d-link (d-bare (d-atom (d-numeral 4))))) (d-link (d-link (d-bare (d-atom (d-numeral 8))))))))))));
     }
@@ -132,11 +128,10 @@ tokens-decided =
     token (kind.Mark sign.True) 0 4 ∷ token (kind.Mark sign.Or) 5 2 ∷ token kind.Numeral 8 1 ∷ []
 
 reads-decided : Reads (codes "true or 3") tree-decided
-unfolding cuts
 reads-decided =
     record {
       tokens = tokens-decided;
-      cut = cut 100 0 (codes "true or 3") tokens-decided refl;
+      cut = scan-cuts (codes "true or 3") tokens-decided refl;
       derives =
           d-connected (d-link (d-premise (d-chain 5 sign.Or refl (d-link (d-link (d-bare (d-side (d-link (d-link (d-bare (d-atom (d-truth 0 {b = true}))))))))) (d-link (d-bare (d-side (d-link (d-link (d-bare (d-atom (d-numeral 8)))))))))));
     }
@@ -154,11 +149,10 @@ tokens-made-up =
     token kind.Numeral 0 1 ∷ token (kind.Mark sign.Div) 2 3 ∷ token kind.Numeral 6 1 ∷ token (kind.Mark sign.Equal) 8 1 ∷ token kind.Numeral 10 1 ∷ token (kind.Mark sign.Or) 12 2 ∷ token (kind.Mark sign.True) 15 4 ∷ []
 
 reads-made-up : Reads (codes "1 div 0 = 1 or true") tree-made-up
-unfolding cuts
 reads-made-up =
     record {
       tokens = tokens-made-up;
-      cut = cut 100 0 (codes "1 div 0 = 1 or true") tokens-made-up refl;
+      cut = scan-cuts (codes "1 div 0 = 1 or true") tokens-made-up refl;
       derives =
           d-connected (d-link (d-premise (d-chain 12 sign.Or refl (d-link (d-link (d-bare (d-relation 8 sign.Equal refl (d-link (d-chain 2 sign.Div refl (d-link (d-bare (d-atom (d-numeral 0)))) (d-bare (d-atom (d-numeral 6))))) (d-link (d-link (d-bare (d-atom (d-numeral 10))))))))) (d-link (d-bare (d-side (d-link (d-link (d-bare (d-atom (d-truth 15 {b = true})))))))))));
     }
@@ -176,11 +170,10 @@ tokens-none =
     token (kind.Mark sign.Exists) 0 6 ∷ token kind.Name 7 1 ∷ token (kind.Mark sign.In) 9 2 ∷ token (kind.Mark sign.Set) 12 3 ∷ token (kind.Mark sign.OpenBrace) 16 1 ∷ token (kind.Mark sign.CloseBrace) 17 1 ∷ token (kind.Mark sign.Ampersand) 19 1 ∷ token kind.Name 21 1 ∷ []
 
 reads-none : Reads (codes "exists c in set {} & c") tree-none
-unfolding cuts
 reads-none =
     record {
       tokens = tokens-none;
-      cut = cut 100 0 (codes "exists c in set {} & c") tokens-none refl;
+      cut = scan-cuts (codes "exists c in set {} & c") tokens-none refl;
       derives =
           d-quantifier 0 19 {o = quant.Exists} (d-bind 7 9 12 (d-link (d-premise (d-link (d-link (d-bare (d-side (d-link (d-link (d-bare (d-atom (d-empty 16 17 brace)))))))))))) (d-connected (d-link (d-premise (d-link (d-link (d-bare (d-side (d-link (d-link (d-bare (d-atom (d-name 21))))))))))));
     }
@@ -198,11 +191,10 @@ tokens-passed-over =
     token (kind.Mark sign.Forall) 0 6 ∷ token kind.Name 7 1 ∷ token (kind.Mark sign.In) 9 2 ∷ token (kind.Mark sign.Set) 12 3 ∷ token (kind.Mark sign.OpenBrace) 16 1 ∷ token kind.Numeral 17 1 ∷ token (kind.Mark sign.Comma) 18 1 ∷ token kind.Numeral 20 1 ∷ token (kind.Mark sign.CloseBrace) 21 1 ∷ token (kind.Mark sign.Ampersand) 23 1 ∷ token kind.Numeral 25 1 ∷ token (kind.Mark sign.Div) 27 3 ∷ token kind.Name 31 1 ∷ token (kind.Mark sign.Equal) 33 1 ∷ token kind.Numeral 35 1 ∷ []
 
 reads-passed-over : Reads (codes "forall x in set {0, 2} & 4 div x = 2") tree-passed-over
-unfolding cuts
 reads-passed-over =
     record {
       tokens = tokens-passed-over;
-      cut = cut 100 0 (codes "forall x in set {0, 2} & 4 div x = 2") tokens-passed-over refl;
+      cut = scan-cuts (codes "forall x in set {0, 2} & 4 div x = 2") tokens-passed-over refl;
       derives =
           d-quantifier 0 23 {o = quant.Forall} (d-bind 7 9 12 (d-link (d-premise (d-link (d-link (d-bare (d-side (d-link (d-link (d-bare (d-atom (d-members 16 21 brace (d-more 18 (d-connected (d-link (d-premise (d-link (d-link (d-bare (d-side (d-link (d-link (d-bare (d-atom (d-numeral 17)))))))))))) (d-last (d-connected (d-link (d-premise (d-link (d-link (d-bare (d-side (d-link (d-link (d-bare (d-atom (d-numeral 20)))))))))))))))))))))))))) (d-connected (d-link (d-premise (d-link (d-link (d-bare (d-relation 33 sign.Equal refl (d-link (d-chain 27 sign.Div refl (d-link (d-bare (d-atom (d-numeral 25)))) (d-bare (d-atom (d-name 31))))) (d-link (d-link (d-bare (d-atom (d-numeral 35))))))))))));
     }
@@ -224,11 +216,10 @@ tokens-one-candidate =
     token (kind.Mark sign.Let) 0 3 ∷ token kind.Name 4 1 ∷ token (kind.Mark sign.In) 6 2 ∷ token (kind.Mark sign.Set) 9 3 ∷ token (kind.Mark sign.OpenBrace) 13 1 ∷ token kind.Numeral 14 1 ∷ token (kind.Mark sign.Comma) 15 1 ∷ token kind.Numeral 17 1 ∷ token (kind.Mark sign.CloseBrace) 18 1 ∷ token (kind.Mark sign.Be) 20 2 ∷ token (kind.Mark sign.St) 23 2 ∷ token kind.Numeral 26 1 ∷ token (kind.Mark sign.Div) 28 3 ∷ token (kind.Mark sign.OpenParen) 32 1 ∷ token kind.Name 33 1 ∷ token (kind.Mark sign.Minus) 35 1 ∷ token kind.Numeral 37 1 ∷ token (kind.Mark sign.CloseParen) 38 1 ∷ token (kind.Mark sign.Less) 40 1 ∷ token kind.Numeral 42 1 ∷ token (kind.Mark sign.In) 44 2 ∷ token kind.Name 47 1 ∷ []
 
 reads-one-candidate : Reads (codes "let x in set {1, 2} be st 1 div (x - 2) < 0 in x") tree-one-candidate
-unfolding cuts
 reads-one-candidate =
     record {
       tokens = tokens-one-candidate;
-      cut = cut 100 0 (codes "let x in set {1, 2} be st 1 div (x - 2) < 0 in x") tokens-one-candidate refl;
+      cut = scan-cuts (codes "let x in set {1, 2} be st 1 div (x - 2) < 0 in x") tokens-one-candidate refl;
       derives =
           d-let-be 0 20 23 44 (d-bind 4 6 9 (d-link (d-premise (d-link (d-link (d-bare (d-side (d-link (d-link (d-bare (d-atom (d-members 13 18 brace (d-more 15 (d-connected (d-link (d-premise (d-link (d-link (d-bare (d-side (d-link (d-link (d-bare (d-atom (d-numeral 14)))))))))))) (d-last (d-connected (d-link (d-premise (d-link (d-link (d-bare (d-side (d-link (d-link (d-bare (d-atom (d-numeral 17)))))))))))))))))))))))))) (d-connected (d-link (d-premise (d-link (d-link (d-bare (d-relation 40 sign.Less refl (d-link (d-chain 28 sign.Div refl (d-link (d-bare (d-atom (d-numeral 26)))) (d-bare (d-atom (d-paren 32 38 (d-connected (d-link (d-premise (d-link (d-link (d-bare (d-side (d-chain 35 sign.Minus refl (d-link (d-link (d-bare (d-atom (d-name 33))))) (d-link (d-bare (d-atom (d-numeral 37))))))))))))))))) (d-link (d-link (d-bare (d-atom (d-numeral 42)))))))))))) (d-connected (d-link (d-premise (d-link (d-link (d-bare (d-side (d-link (d-link (d-bare (d-atom (d-name 47))))))))))));
     }
@@ -250,11 +241,10 @@ tokens-second-case =
     token (kind.Mark sign.Cases) 0 5 ∷ token (kind.Mark sign.OpenBracket) 6 1 ∷ token (kind.Mark sign.CloseBracket) 7 1 ∷ token (kind.Mark sign.Colon) 8 1 ∷ token (kind.Mark sign.OpenBracket) 10 1 ∷ token kind.Name 11 1 ∷ token (kind.Mark sign.CloseBracket) 12 1 ∷ token (kind.Mark sign.Arrow) 14 2 ∷ token kind.Numeral 17 1 ∷ token (kind.Mark sign.Comma) 18 1 ∷ token (kind.Mark sign.OpenBracket) 20 1 ∷ token (kind.Mark sign.CloseBracket) 21 1 ∷ token (kind.Mark sign.Arrow) 23 2 ∷ token kind.Numeral 26 1 ∷ token (kind.Mark sign.End) 28 3 ∷ []
 
 reads-second-case : Reads (codes "cases []: [a] -> 1, [] -> 2 end") tree-second-case
-unfolding cuts
 reads-second-case =
     record {
       tokens = tokens-second-case;
-      cut = cut 100 0 (codes "cases []: [a] -> 1, [] -> 2 end") tokens-second-case refl;
+      cut = scan-cuts (codes "cases []: [a] -> 1, [] -> 2 end") tokens-second-case refl;
       derives =
           d-cases 0 8 28 (d-connected (d-link (d-premise (d-link (d-link (d-bare (d-side (d-link (d-link (d-bare (d-atom (d-empty 6 7 bracket)))))))))))) (d-next 14 18 (p-sequence 10 12 (p-last (p-name 11))) (d-connected (d-link (d-premise (d-link (d-link (d-bare (d-side (d-link (d-link (d-bare (d-atom (d-numeral 17)))))))))))) (d-only 23 (p-empty 20 21) (d-connected (d-link (d-premise (d-link (d-link (d-bare (d-side (d-link (d-link (d-bare (d-atom (d-numeral 26))))))))))))));
     }
@@ -274,11 +264,10 @@ tokens-by-sight =
     token (kind.Mark sign.OpenBracket) 0 1 ∷ token (kind.Mark sign.Let) 1 3 ∷ token kind.Name 5 1 ∷ token (kind.Mark sign.In) 7 2 ∷ token (kind.Mark sign.Set) 10 3 ∷ token (kind.Mark sign.OpenBrace) 14 1 ∷ token kind.Numeral 15 1 ∷ token (kind.Mark sign.Comma) 16 1 ∷ token kind.Numeral 18 1 ∷ token (kind.Mark sign.CloseBrace) 19 1 ∷ token (kind.Mark sign.Be) 21 2 ∷ token (kind.Mark sign.St) 24 2 ∷ token (kind.Mark sign.True) 27 4 ∷ token (kind.Mark sign.In) 32 2 ∷ token kind.Name 35 1 ∷ token (kind.Mark sign.Bar) 37 1 ∷ token kind.Name 39 1 ∷ token (kind.Mark sign.In) 41 2 ∷ token (kind.Mark sign.Set) 44 3 ∷ token (kind.Mark sign.OpenBrace) 48 1 ∷ token kind.Numeral 49 1 ∷ token (kind.Mark sign.Comma) 50 1 ∷ token kind.Numeral 52 1 ∷ token (kind.Mark sign.CloseBrace) 53 1 ∷ token (kind.Mark sign.CloseBracket) 54 1 ∷ []
 
 reads-by-sight : Reads (codes "[let x in set {1, 2} be st true in x | y in set {1, 2}]") tree-by-sight
-unfolding cuts
 reads-by-sight =
     record {
       tokens = tokens-by-sight;
-      cut = cut 100 0 (codes "[let x in set {1, 2} be st true in x | y in set {1, 2}]") tokens-by-sight refl;
+      cut = scan-cuts (codes "[let x in set {1, 2} be st true in x | y in set {1, 2}]") tokens-by-sight refl;
       derives =
           d-connected (d-link (d-premise (d-link (d-link (d-bare (d-side (d-link (d-link (d-bare (d-atom (d-comprehension 0 37 54 bracket (d-let-be 1 21 24 32 (d-bind 5 7 10 (d-link (d-premise (d-link (d-link (d-bare (d-side (d-link (d-link (d-bare (d-atom (d-members 14 19 brace (d-more 16 (d-connected (d-link (d-premise (d-link (d-link (d-bare (d-side (d-link (d-link (d-bare (d-atom (d-numeral 15)))))))))))) (d-last (d-connected (d-link (d-premise (d-link (d-link (d-bare (d-side (d-link (d-link (d-bare (d-atom (d-numeral 18)))))))))))))))))))))))))) (d-connected (d-link (d-premise (d-link (d-link (d-bare (d-side (d-link (d-link (d-bare (d-atom (d-truth 27 {b = true})))))))))))) (d-connected (d-link (d-premise (d-link (d-link (d-bare (d-side (d-link (d-link (d-bare (d-atom (d-name 35))))))))))))) (d-bind 39 41 44 (d-link (d-premise (d-link (d-link (d-bare (d-side (d-link (d-link (d-bare (d-atom (d-members 48 53 brace (d-more 50 (d-connected (d-link (d-premise (d-link (d-link (d-bare (d-side (d-link (d-link (d-bare (d-atom (d-numeral 49)))))))))))) (d-last (d-connected (d-link (d-premise (d-link (d-link (d-bare (d-side (d-link (d-link (d-bare (d-atom (d-numeral 52)))))))))))))))))))))))))))))))))))));
     }
@@ -359,11 +348,10 @@ tokens-hidden =
     token (kind.Mark sign.OpenBracket) 0 1 ∷ token (kind.Mark sign.Let) 1 3 ∷ token kind.Name 5 1 ∷ token (kind.Mark sign.Equal) 7 1 ∷ token kind.Numeral 9 1 ∷ token (kind.Mark sign.In) 11 2 ∷ token (kind.Mark sign.Let) 14 3 ∷ token kind.Name 18 1 ∷ token (kind.Mark sign.In) 20 2 ∷ token (kind.Mark sign.Set) 23 3 ∷ token (kind.Mark sign.OpenBrace) 27 1 ∷ token kind.Numeral 28 1 ∷ token (kind.Mark sign.Comma) 29 1 ∷ token kind.Numeral 31 1 ∷ token (kind.Mark sign.CloseBrace) 32 1 ∷ token (kind.Mark sign.Be) 34 2 ∷ token (kind.Mark sign.St) 37 2 ∷ token (kind.Mark sign.True) 40 4 ∷ token (kind.Mark sign.In) 45 2 ∷ token kind.Name 48 1 ∷ token (kind.Mark sign.Bar) 50 1 ∷ token kind.Name 52 1 ∷ token (kind.Mark sign.In) 54 2 ∷ token (kind.Mark sign.Set) 57 3 ∷ token (kind.Mark sign.OpenBrace) 61 1 ∷ token kind.Numeral 62 1 ∷ token (kind.Mark sign.Comma) 63 1 ∷ token kind.Numeral 65 1 ∷ token (kind.Mark sign.CloseBrace) 66 1 ∷ token (kind.Mark sign.CloseBracket) 67 1 ∷ []
 
 reads-hidden : Reads (codes "[let y = 0 in let x in set {1, 2} be st true in x | y in set {1, 2}]") tree-hidden
-unfolding cuts
 reads-hidden =
     record {
       tokens = tokens-hidden;
-      cut = cut 100 0 (codes "[let y = 0 in let x in set {1, 2} be st true in x | y in set {1, 2}]") tokens-hidden refl;
+      cut = scan-cuts (codes "[let y = 0 in let x in set {1, 2} be st true in x | y in set {1, 2}]") tokens-hidden refl;
       derives =
           d-connected (d-link (d-premise (d-link (d-link (d-bare (d-side (d-link (d-link (d-bare (d-atom (d-comprehension 0 50 67 bracket (d-let 1 5 7 11 (d-connected (d-link (d-premise (d-link (d-link (d-bare (d-side (d-link (d-link (d-bare (d-atom (d-numeral 9)))))))))))) (d-let-be 14 34 37 45 (d-bind 18 20 23 (d-link (d-premise (d-link (d-link (d-bare (d-side (d-link (d-link (d-bare (d-atom (d-members 27 32 brace (d-more 29 (d-connected (d-link (d-premise (d-link (d-link (d-bare (d-side (d-link (d-link (d-bare (d-atom (d-numeral 28)))))))))))) (d-last (d-connected (d-link (d-premise (d-link (d-link (d-bare (d-side (d-link (d-link (d-bare (d-atom (d-numeral 31)))))))))))))))))))))))))) (d-connected (d-link (d-premise (d-link (d-link (d-bare (d-side (d-link (d-link (d-bare (d-atom (d-truth 40 {b = true})))))))))))) (d-connected (d-link (d-premise (d-link (d-link (d-bare (d-side (d-link (d-link (d-bare (d-atom (d-name 48)))))))))))))) (d-bind 52 54 57 (d-link (d-premise (d-link (d-link (d-bare (d-side (d-link (d-link (d-bare (d-atom (d-members 61 66 brace (d-more 63 (d-connected (d-link (d-premise (d-link (d-link (d-bare (d-side (d-link (d-link (d-bare (d-atom (d-numeral 62)))))))))))) (d-last (d-connected (d-link (d-premise (d-link (d-link (d-bare (d-side (d-link (d-link (d-bare (d-atom (d-numeral 65)))))))))))))))))))))))))))))))))))));
     }
@@ -409,11 +397,10 @@ tokens-lengths =
     token (kind.Mark sign.Len) 0 3 ∷ token kind.Name 4 7 ∷ []
 
 reads-lengths : Reads (codes "len changes") tree-lengths
-unfolding cuts
 reads-lengths =
     record {
       tokens = tokens-lengths;
-      cut = cut 100 0 (codes "len changes") tokens-lengths refl;
+      cut = scan-cuts (codes "len changes") tokens-lengths refl;
       derives =
           d-connected (d-link (d-premise (d-link (d-link (d-bare (d-side (d-link (d-link (d-prefix 0 sign.Len refl (d-bare (d-atom (d-name 4))))))))))));
     }
@@ -431,11 +418,10 @@ tokens-in-range =
     token (kind.Mark sign.Forall) 0 6 ∷ token kind.Name 7 1 ∷ token (kind.Mark sign.In) 9 2 ∷ token (kind.Mark sign.Set) 12 3 ∷ token (kind.Mark sign.Elems) 16 5 ∷ token kind.Name 22 7 ∷ token (kind.Mark sign.Ampersand) 30 1 ∷ token kind.Name 32 1 ∷ token (kind.Mark sign.Select) 33 2 ∷ token kind.Numeral 35 1 ∷ token (kind.Mark sign.LessEqual) 37 2 ∷ token kind.Name 40 1 ∷ token (kind.Mark sign.Select) 41 2 ∷ token kind.Numeral 43 1 ∷ token (kind.Mark sign.And) 45 3 ∷ token kind.Name 49 1 ∷ token (kind.Mark sign.Select) 50 2 ∷ token kind.Numeral 52 1 ∷ token (kind.Mark sign.LessEqual) 54 2 ∷ token kind.Name 57 8 ∷ []
 
 reads-in-range : Reads (codes "forall c in set elems changes & c.#3 <= c.#4 and c.#4 <= segments") tree-in-range
-unfolding cuts
 reads-in-range =
     record {
       tokens = tokens-in-range;
-      cut = cut 100 0 (codes "forall c in set elems changes & c.#3 <= c.#4 and c.#4 <= segments") tokens-in-range refl;
+      cut = scan-cuts (codes "forall c in set elems changes & c.#3 <= c.#4 and c.#4 <= segments") tokens-in-range refl;
       derives =
           d-quantifier 0 30 {o = quant.Forall} (d-bind 7 9 12 (d-link (d-premise (d-link (d-link (d-bare (d-side (d-link (d-link (d-prefix 16 sign.Elems refl (d-bare (d-atom (d-name 22))))))))))))) (d-connected (d-link (d-premise (d-link (d-chain 45 sign.And refl (d-link (d-bare (d-relation 37 sign.LessEqual refl (d-link (d-link (d-bare (d-select 33 35 (d-atom (d-name 32)))))) (d-link (d-link (d-bare (d-select 41 43 (d-atom (d-name 40))))))))) (d-bare (d-relation 54 sign.LessEqual refl (d-link (d-link (d-bare (d-select 50 52 (d-atom (d-name 49)))))) (d-link (d-link (d-bare (d-atom (d-name 57))))))))))));
     }
@@ -453,11 +439,10 @@ tokens-authors =
     token (kind.Mark sign.OpenBracket) 0 1 ∷ token kind.Name 1 7 ∷ token (kind.Mark sign.OpenParen) 8 1 ∷ token kind.Name 9 1 ∷ token (kind.Mark sign.CloseParen) 10 1 ∷ token (kind.Mark sign.Select) 11 2 ∷ token kind.Numeral 13 1 ∷ token (kind.Mark sign.Bar) 15 1 ∷ token kind.Name 17 1 ∷ token (kind.Mark sign.In) 19 2 ∷ token (kind.Mark sign.Set) 22 3 ∷ token (kind.Mark sign.Inds) 26 4 ∷ token kind.Name 31 7 ∷ token (kind.Mark sign.CloseBracket) 38 1 ∷ []
 
 reads-authors : Reads (codes "[changes(i).#1 | i in set inds changes]") tree-authors
-unfolding cuts
 reads-authors =
     record {
       tokens = tokens-authors;
-      cut = cut 100 0 (codes "[changes(i).#1 | i in set inds changes]") tokens-authors refl;
+      cut = scan-cuts (codes "[changes(i).#1 | i in set inds changes]") tokens-authors refl;
       derives =
           d-connected (d-link (d-premise (d-link (d-link (d-bare (d-side (d-link (d-link (d-bare (d-atom (d-comprehension 0 15 38 bracket (d-connected (d-link (d-premise (d-link (d-link (d-bare (d-side (d-link (d-link (d-bare (d-select 11 13 (d-apply 8 10 (d-atom (d-name 1)) (d-connected (d-link (d-premise (d-link (d-link (d-bare (d-side (d-link (d-link (d-bare (d-atom (d-name 9)))))))))))))))))))))))) (d-bind 17 19 22 (d-link (d-premise (d-link (d-link (d-bare (d-side (d-link (d-link (d-prefix 26 sign.Inds refl (d-bare (d-atom (d-name 31))))))))))))))))))))))));
     }
@@ -475,11 +460,10 @@ tokens-second-change =
     token (kind.Mark sign.Let) 0 3 ∷ token kind.Name 4 1 ∷ token (kind.Mark sign.In) 6 2 ∷ token (kind.Mark sign.Set) 9 3 ∷ token (kind.Mark sign.Elems) 13 5 ∷ token kind.Name 19 7 ∷ token (kind.Mark sign.Be) 27 2 ∷ token (kind.Mark sign.St) 30 2 ∷ token kind.Name 33 1 ∷ token (kind.Mark sign.Select) 34 2 ∷ token kind.Numeral 36 1 ∷ token (kind.Mark sign.Equal) 38 1 ∷ token kind.Numeral 40 1 ∷ token (kind.Mark sign.In) 42 2 ∷ token kind.Name 45 1 ∷ []
 
 reads-second-change : Reads (codes "let c in set elems changes be st c.#2 = 1 in c") tree-second-change
-unfolding cuts
 reads-second-change =
     record {
       tokens = tokens-second-change;
-      cut = cut 100 0 (codes "let c in set elems changes be st c.#2 = 1 in c") tokens-second-change refl;
+      cut = scan-cuts (codes "let c in set elems changes be st c.#2 = 1 in c") tokens-second-change refl;
       derives =
           d-let-be 0 27 30 42 (d-bind 4 6 9 (d-link (d-premise (d-link (d-link (d-bare (d-side (d-link (d-link (d-prefix 13 sign.Elems refl (d-bare (d-atom (d-name 19))))))))))))) (d-connected (d-link (d-premise (d-link (d-link (d-bare (d-relation 38 sign.Equal refl (d-link (d-link (d-bare (d-select 34 36 (d-atom (d-name 33)))))) (d-link (d-link (d-bare (d-atom (d-numeral 40)))))))))))) (d-connected (d-link (d-premise (d-link (d-link (d-bare (d-side (d-link (d-link (d-bare (d-atom (d-name 45))))))))))));
     }

@@ -6,8 +6,9 @@ ghost use mathlib.Core.List.{[], _∷_, _++_};
 ghost use lib.ListN.{length};
 ghost use Rattle.std.specs.declared.option.Option.the-variants.{Some, None};
 ghost use Rattle.tables.specs.Items.{items as itemsOf, room};
-ghost use Rattle.grammar.specs.Steps.{is as isMark, is-name, is-numeral, is-truth, is-quantifier, joins, relates, leads, code, operation, infix-at, relation-of, unary-of, prefix-at};
+ghost use Rattle.grammar.specs.Steps.{is as isMark, is-name, is-numeral, is-truth, is-quantifier, joins, relates, leads, operation, infix-at, relation-of, unary-of, prefix-at};
 ghost use Rattle.grammar.specs.Steps.{next as nextOf};
+ghost use Rattle.tokens.specs.Spelling.{number as numberOf};
 ghost use Rattle.grammar.specs.Grammar.{closing as closingOf, kind as kindOf};
 ghost use Rattle.reading.specs.Sources.{TokenAt, placeAt, Looks, Wants, Found, IsName, IsNumeral, IsTruth, IsQuantifier, limitOf, afterOf, bracketOf, Reads, Shows};
 ghost use Rattle.reading.specs.Signs.{leftOf, leadOf, operationOf};
@@ -133,7 +134,7 @@ fn is_mark(kind: Kind, mark: Mark) -> bool
 }
 
 fn number(mark: Mark) -> u8
-    ensures { λ r. ⌜ r ≡ code mark ⌝ }
+    ensures { λ r. ⌜ r ≡ numberOf mark ⌝ }
 {
     mark as u8
 }

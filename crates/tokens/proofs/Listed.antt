@@ -10,75 +10,13 @@ use Rattle.std.specs.shelf.Text.{sameBytes}
 use Rattle.std.proofs.shelf.Tests.{and-parts, not-true, eqb-true, leb-true, ltb-true, both-ways}
 use Rattle.tokens.specs.declared.Mark.{Mark}
 use Rattle.tokens.specs.declared.Mark.the-variants as mark
-use Rattle.tokens.specs.Spelling.{spelling}
+use Rattle.tokens.specs.Spelling.{spelling, number}
 use Rattle.tokens.specs.Lookup.{ofLength, ofFirst}
 use Rattle.tokens.specs.Pieces.{letter, digit, separates, word}
 
 abbrev pub marks : List Mark
 marks =
     mark.Abs ∷ mark.And ∷ mark.Be ∷ mark.Card ∷ mark.Cases ∷ mark.Div ∷ mark.Elems ∷ mark.Else ∷ mark.Elseif ∷ mark.End ∷ mark.Exists ∷ mark.False ∷ mark.Forall ∷ mark.Hd ∷ mark.If ∷ mark.In ∷ mark.Inds ∷ mark.Inter ∷ mark.Len ∷ mark.Let ∷ mark.Mk ∷ mark.Mod ∷ mark.Not ∷ mark.Or ∷ mark.Others ∷ mark.Psubset ∷ mark.Rem ∷ mark.Set ∷ mark.St ∷ mark.Subset ∷ mark.Then ∷ mark.Tl ∷ mark.True ∷ mark.Union ∷ mark.Iff ∷ mark.Implies ∷ mark.Equal ∷ mark.NotEqual ∷ mark.Less ∷ mark.LessEqual ∷ mark.Greater ∷ mark.GreaterEqual ∷ mark.Plus ∷ mark.Minus ∷ mark.Backslash ∷ mark.Caret ∷ mark.Star ∷ mark.OpenParen ∷ mark.CloseParen ∷ mark.OpenBracket ∷ mark.CloseBracket ∷ mark.OpenBrace ∷ mark.CloseBrace ∷ mark.Comma ∷ mark.Colon ∷ mark.Arrow ∷ mark.Ampersand ∷ mark.Bar ∷ mark.Ellipsis ∷ mark.Select ∷ []
-
-abbrev pub number : Mark → ℕ
-number mark.Abs = 0
-number mark.And = 1
-number mark.Be = 2
-number mark.Card = 3
-number mark.Cases = 4
-number mark.Div = 5
-number mark.Elems = 6
-number mark.Else = 7
-number mark.Elseif = 8
-number mark.End = 9
-number mark.Exists = 10
-number mark.False = 11
-number mark.Forall = 12
-number mark.Hd = 13
-number mark.If = 14
-number mark.In = 15
-number mark.Inds = 16
-number mark.Inter = 17
-number mark.Len = 18
-number mark.Let = 19
-number mark.Mk = 20
-number mark.Mod = 21
-number mark.Not = 22
-number mark.Or = 23
-number mark.Others = 24
-number mark.Psubset = 25
-number mark.Rem = 26
-number mark.Set = 27
-number mark.St = 28
-number mark.Subset = 29
-number mark.Then = 30
-number mark.Tl = 31
-number mark.True = 32
-number mark.Union = 33
-number mark.Iff = 34
-number mark.Implies = 35
-number mark.Equal = 36
-number mark.NotEqual = 37
-number mark.Less = 38
-number mark.LessEqual = 39
-number mark.Greater = 40
-number mark.GreaterEqual = 41
-number mark.Plus = 42
-number mark.Minus = 43
-number mark.Backslash = 44
-number mark.Caret = 45
-number mark.Star = 46
-number mark.OpenParen = 47
-number mark.CloseParen = 48
-number mark.OpenBracket = 49
-number mark.CloseBracket = 50
-number mark.OpenBrace = 51
-number mark.CloseBrace = 52
-number mark.Comma = 53
-number mark.Colon = 54
-number mark.Arrow = 55
-number mark.Ampersand = 56
-number mark.Bar = 57
-number mark.Ellipsis = 58
-number mark.Select = 59
 
 listed : (m : Mark) → getD marks (number m) mark.Abs ≡ m
 listed mark.Abs = refl

@@ -1,4 +1,4 @@
--- How the reserved words and signs are spelled.
+-- How the reserved words and signs are spelled, and their numbers in the order in which they are declared.
 use Prim.Native.Nat.{ℕ}
 use mathlib.Core.List.{List}
 use lib.Chars.{codes}
@@ -66,3 +66,65 @@ spelling mark.Ampersand = codes "&"
 spelling mark.Bar = codes "|"
 spelling mark.Ellipsis = codes "..."
 spelling mark.Select = codes ".#"
+
+abbrev pub number : Mark → ℕ
+number mark.Abs = 0
+number mark.And = 1
+number mark.Be = 2
+number mark.Card = 3
+number mark.Cases = 4
+number mark.Div = 5
+number mark.Elems = 6
+number mark.Else = 7
+number mark.Elseif = 8
+number mark.End = 9
+number mark.Exists = 10
+number mark.False = 11
+number mark.Forall = 12
+number mark.Hd = 13
+number mark.If = 14
+number mark.In = 15
+number mark.Inds = 16
+number mark.Inter = 17
+number mark.Len = 18
+number mark.Let = 19
+number mark.Mk = 20
+number mark.Mod = 21
+number mark.Not = 22
+number mark.Or = 23
+number mark.Others = 24
+number mark.Psubset = 25
+number mark.Rem = 26
+number mark.Set = 27
+number mark.St = 28
+number mark.Subset = 29
+number mark.Then = 30
+number mark.Tl = 31
+number mark.True = 32
+number mark.Union = 33
+number mark.Iff = 34
+number mark.Implies = 35
+number mark.Equal = 36
+number mark.NotEqual = 37
+number mark.Less = 38
+number mark.LessEqual = 39
+number mark.Greater = 40
+number mark.GreaterEqual = 41
+number mark.Plus = 42
+number mark.Minus = 43
+number mark.Backslash = 44
+number mark.Caret = 45
+number mark.Star = 46
+number mark.OpenParen = 47
+number mark.CloseParen = 48
+number mark.OpenBracket = 49
+number mark.CloseBracket = 50
+number mark.OpenBrace = 51
+number mark.CloseBrace = 52
+number mark.Comma = 53
+number mark.Colon = 54
+number mark.Arrow = 55
+number mark.Ampersand = 56
+number mark.Bar = 57
+number mark.Ellipsis = 58
+number mark.Select = 59
