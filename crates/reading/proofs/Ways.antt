@@ -45,13 +45,21 @@ module _ {i : Job} {q : Prog (Result i)} {s : Source} {n : ℕ} {far : Bool} {δ
   pub both : {x y : Test} {r p : Prog (Result i)} {k : Lexeme → Prog (Result i)} {m : ℕ} {far′ : Bool} {t′ : Table Entry} {c : ℕ} → Reached i q s n far δ t (ahead x y r p k) m far′ t′ c → (h : Sees s m x) → Sees s (m + 1) y → Reached i q s n far δ t (k (h .token)) (m + 1 + 1) false t′ (c + 2)
   both {x} {y} {r} {p} {k} {m} {far′} w h g = record {
     step = λ o z. w .step o (subst (λ us. Run i (ahead x y r p k) us far′ o) (sym (h .here ∙ ap {B = List Lexeme} (λ us. h .token ∷ us) (g .here))) (r-both (h .passes) (g .passes) z));
-    kept = w .kept; few = omega (arith, w .few); slots = w .slots; forth = omega (arith, w .forth); inside = omega (arith, g .inside);
+    kept = w .kept;
+    few = omega (arith, w .few);
+    slots = w .slots;
+    forth = omega (arith, w .forth);
+    inside = omega (arith, g .inside);
   }
 
   pub only : {x y : Test} {r p : Prog (Result i)} {k : Lexeme → Prog (Result i)} {m : ℕ} {far′ : Bool} {t′ : Table Entry} {c : ℕ} → Reached i q s n far δ t (ahead x y r p k) m far′ t′ c → Sees s m x → Misses y (first (from s (m + 1))) → Reached i q s n far δ t p m true t′ c
   only {x} {y} w h g = record {
     step = λ o z. w .step o (r-only (subst (λ us. Hits x (first us)) (sym (h .here)) (h .passes)) (subst (λ us. Misses y (second us)) (sym (h .here)) g) z);
-    kept = w .kept; few = w .few; slots = w .slots; forth = w .forth; inside = w .inside;
+    kept = w .kept;
+    few = w .few;
+    slots = w .slots;
+    forth = w .forth;
+    inside = w .inside;
   }
 
   pub neither : {x y : Test} {r p : Prog (Result i)} {k : Lexeme → Prog (Result i)} {m : ℕ} {far′ : Bool} {t′ : Table Entry} {c : ℕ} → Reached i q s n far δ t (ahead x y r p k) m far′ t′ c → Misses x (first (from s m)) → Reached i q s n far δ t r m far′ t′ c
@@ -61,13 +69,21 @@ module _ {i : Job} {q : Prog (Result i)} {s : Source} {n : ℕ} {far : Bool} {δ
   pub wanted : {x : Test} {k : Lexeme → Prog (Result i)} {m m′ : ℕ} {far′ : Bool} {t′ : Table Entry} {c : ℕ} → Reached i q s n far δ t (want x k) m far′ t′ c → (h : Sees s m x × (m′ ≡ m + 1)) → Reached i q s n far δ t (k (h .0 .token)) m′ false t′ (c + 1)
   wanted {x} {k} {m} {m′} {far′} {t′} {c} w h = subst (λ l. Reached i q s n far δ t (k (h .0 .token)) l false t′ (c + 1)) (sym (h .1)) (record {
     step = λ o r. w .step o (subst (λ us. Run i (want x k) us far′ o) (sym (h .0 .here)) (r-want (h .0 .passes) r));
-    kept = w .kept; few = omega (arith, w .few); slots = w .slots; forth = omega (arith, w .forth); inside = omega (arith, h .0 .inside);
+    kept = w .kept;
+    few = omega (arith, w .few);
+    slots = w .slots;
+    forth = omega (arith, w .forth);
+    inside = omega (arith, h .0 .inside);
   })
 
   pub taken : {x : Test} {p : Prog (Result i)} {k : Lexeme → Prog (Result i)} {m : ℕ} {far′ : Bool} {t′ : Table Entry} {c : ℕ} → Reached i q s n far δ t (on x p k) m far′ t′ c → (h : Sees s m x) → Reached i q s n far δ t (k (h .token)) (m + 1) false t′ (c + 1)
   taken {x} {p} {k} {m} {far′} w h = record {
     step = λ o r. w .step o (subst (λ us. Run i (on x p k) us far′ o) (sym (h .here)) (r-on (h .passes) r));
-    kept = w .kept; few = omega (arith, w .few); slots = w .slots; forth = omega (arith, w .forth); inside = omega (arith, h .inside);
+    kept = w .kept;
+    few = omega (arith, w .few);
+    slots = w .slots;
+    forth = omega (arith, w .forth);
+    inside = omega (arith, h .inside);
   }
 
   -- it was another token
@@ -109,8 +125,15 @@ module _ {i : Job} {q : Prog (Result i)} {s : Source} {n : ℕ} {far : Bool} {δ
 
   pub returned : {a : Result i} {m : ℕ} {far′ : Bool} {t′ : Table Entry} {c : ℕ} (holds : Result i → Type 0) → Reached i q s n far δ t (ret a) m far′ t′ c → holds a → Got i q s n far δ t t′ m holds
   returned {a} {far′ = far′} holds w h = record {
-    value = a; then = far′; run = w .step _ r-ret; held = h; kept = w .kept;
-    few = omega (arith, w .few); slots = w .slots; on = w .forth; inside = w .inside;
+    value = a;
+    then = far′;
+    run = w .step _ r-ret;
+    held = h;
+    kept = w .kept;
+    few = omega (arith, w .few);
+    slots = w .slots;
+    on = w .forth;
+    inside = w .inside;
   }
 
   pub returned-at : {a : Result i} {m m′ : ℕ} {far′ : Bool} {t′ : Table Entry} {c : ℕ} (holds : Result i → Type 0) → m′ ≡ m → Reached i q s n far δ t (ret a) m far′ t′ c → holds a → Got i q s n far δ t t′ m′ holds
@@ -119,16 +142,30 @@ module _ {i : Job} {q : Prog (Result i)} {s : Source} {n : ℕ} {far : Bool} {δ
   -- a function that goes on where this one is, and ends as it does
   pub tail : {N : Type 0} {p : Prog (Result i)} {m : ℕ} {far′ : Bool} {t′ : Table Entry} {c : ℕ} (t″ : Table Entry) (d : ℕ) (next : N → ℕ) (holds : List Entry → N → Result i → Type 0) (r : result.Result N ℕ) → Reached i q s n far δ t p m far′ t′ c → d ≤ c → Came i p s m far′ d t′ t″ next holds r → Came i q s n far δ t t″ next holds r
   tail t″ d next holds (Ok r) w h g = record {
-    value = g .value; then = g .then; run = w .step _ (g .run); held = g .held; kept = then-more (w .kept) (g .kept);
-    few = omega (arith, w .few, g .few); slots = g .slots ∙ w .slots; on = omega (arith, w .forth, g .on); inside = g .inside;
+    value = g .value;
+    then = g .then;
+    run = w .step _ (g .run);
+    held = g .held;
+    kept = then-more (w .kept) (g .kept);
+    few = omega (arith, w .few, g .few);
+    slots = g .slots ∙ w .slots;
+    on = omega (arith, w .forth, g .on);
+    inside = g .inside;
   }
   tail t″ d next holds (Err m) w h g = record { then = g .then; run = w .step _ (g .run); slots = g .slots ∙ w .slots; inside = g .inside }
 
   -- a call whose value is the value
   pub tail-call : {N : Type 0} {j : Job} {m : ℕ} {far′ : Bool} {t′ : Table Entry} {c : ℕ} (f : Result j → Result i) (t″ : Table Entry) (d : ℕ) (next : N → ℕ) (holds : List Entry → N → Result i → Type 0) (r : result.Result N ℕ) → Reached i q s n far δ t (call j (λ v. ret (f v))) m far′ t′ c → d ≤ c → Came j (body j) s m far′ d t′ t″ next (λ es x v. holds es x (f v)) r → Came i q s n far δ t t″ next holds r
   tail-call f t″ d next holds (Ok r) w h g = record {
-    value = f (g .value); then = g .then; run = w .step _ (r-call (g .run) r-ret); held = g .held; kept = then-more (w .kept) (g .kept);
-    few = omega (arith, w .few, g .few); slots = g .slots ∙ w .slots; on = omega (arith, w .forth, g .on); inside = g .inside;
+    value = f (g .value);
+    then = g .then;
+    run = w .step _ (r-call (g .run) r-ret);
+    held = g .held;
+    kept = then-more (w .kept) (g .kept);
+    few = omega (arith, w .few, g .few);
+    slots = g .slots ∙ w .slots;
+    on = omega (arith, w .forth, g .on);
+    inside = g .inside;
   }
   tail-call f t″ d next holds (Err m) w h g = record { then = g .then; run = w .step _ (r-fails (g .run)); slots = g .slots ∙ w .slots; inside = g .inside }
 

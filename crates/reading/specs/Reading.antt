@@ -1,5 +1,5 @@
 -- What `read` promises.
-use Prim.Native.Nat.{ℕ, _-_, _≤_, _<_}
+use Prim.Native.Nat.{ℕ, _+_, _-_, _≤_, _<_}
 use mathlib.Core.Path.{_≡_}
 use mathlib.Core.List.{List, [], _∷_, _++_, map}
 use lib.ListN.{length, drop, replicate}
@@ -25,7 +25,7 @@ use Rattle.reading.specs.declared.call.Draft.{Draft}
 use Rattle.reading.specs.declared.call.Refusal.{Refusal}
 use Rattle.reading.specs.declared.call.Refusal.the-variants.{TooLong, SmallTable, NoToken, NoSentence}
 use Rattle.reading.specs.Entries.{Holds}
-use Rattle.reading.specs.Sources.{lexemes, from}
+use Rattle.reading.specs.Sources.{lexemes, from, size}
 
 abbrev pub told : Refusal → Refused
 told TooLong = record { number = 1; place = None }
@@ -43,7 +43,8 @@ badPlace s n = placeOr (length (s .text .now)) (first (from s n))
 
 -- the tokens of a source are a sentence, whose one tree the table holds; or token number k is the first bad one
 abbrev pub Parsed : Source → Table Entry → Table Entry → Result ℕ ℕ → Type 0
-Parsed s t t′ (Ok node) = (tree : Tree) × (sentences.Accepted Sort.expr (lexemes s) tree × (Holds (s .text .now) (items t′) node tree × (room t′ ≡ room t)))
+Parsed s t t′ (Ok node) =
+    (tree : Tree) × (sentences.Accepted Sort.expr (lexemes s) tree × (Holds (s .text .now) (items t′) node tree × ((room t′ ≡ room t) × (length (items t′) ≤ length (items t) + size s))))
 Parsed s t t′ (Err k) = sentences.Refused Sort.expr (lexemes s) k × (room t′ ≡ room t)
 
 -- the text is cut into these tokens, which derive the tree
@@ -52,7 +53,7 @@ pub record Sentence (text : List ℕ) (tree : Tree) : Type 0 where
   pub cut : Cut 0 text tokens None
   pub derived : Derives Sort.expr (map (lexeme text) tokens) tree
 
--- the draft holds the text's one tree; behind the entries every slot is empty
+-- the draft holds the text's one tree, in at most as many entries as the text has bytes; behind them every slot is empty
 pub record Drafted (text : List ℕ) (before : List Entry) (d : Draft) : Type 0 where
   pub short : length text ≤ 2048
   pub large : 2048 ≤ length before
@@ -62,6 +63,7 @@ pub record Drafted (text : List ℕ) (before : List Entry) (d : Draft) : Type 0 
   pub same-text : d .text .now ≡ text
   pub nodes : List Entry
   pub held : Holds text nodes (d .root) tree
+  pub few : length nodes ≤ length text
   pub entries : d .entries .now ≡ nodes ++ replicate (length before - length nodes) entry.Empty
 
 -- the text has a bad place, and is refused 2 there
@@ -92,5 +94,5 @@ pub record Undrafted (text : List ℕ) (before after : List Entry) (w : Refusal)
 
 -- what tokens and tree of a text come to in a table that is large enough
 abbrev pub Built : List ℕ → Table Entry → Table Entry → Result ℕ Refusal → Type 0
-Built text t t′ (Ok root) = (tree : Tree) × (Sentence text tree × (((u : Tree) → Sentence text u → u ≡ tree) × (Holds text (items t′) root tree × (room t′ ≡ room t))))
+Built text t t′ (Ok root) = (tree : Tree) × (Sentence text tree × (((u : Tree) → Sentence text u → u ≡ tree) × (Holds text (items t′) root tree × ((room t′ ≡ room t) × (length (items t′) ≤ length text)))))
 Built text t t′ (Err w) = Denied text w × (room t′ ≡ room t)

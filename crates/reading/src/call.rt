@@ -19,7 +19,11 @@ use tokens::tokenise;
 // The most bytes of a text, and the fewest slots of a tree table.
 const TEXT_MAX: usize = 2048;
 
-const NO_TOKEN: Token = Token { kind: Kind::Name, place: 0, len: 0 };
+const NO_TOKEN: Token = Token {
+    kind: Kind::Name,
+    place: 0,
+    len: 0,
+};
 
 /// Why a text is not read.
 #[derive(Clone, Copy, Debug)]
@@ -40,10 +44,22 @@ impl Refusal {
         ensures { λ r. ⌜ r ≡ toldOf self ⌝ }
     {
         match self {
-            Refusal::TooLong => Refused { number: 1, place: None },
-            Refusal::SmallTable => Refused { number: 4, place: None },
-            Refusal::NoToken(place) => Refused { number: 2, place: Some(place) },
-            Refusal::NoSentence(place) => Refused { number: 3, place: Some(place) },
+            Refusal::TooLong => Refused {
+                number: 1,
+                place: None,
+            },
+            Refusal::SmallTable => Refused {
+                number: 4,
+                place: None,
+            },
+            Refusal::NoToken(place) => Refused {
+                number: 2,
+                place: Some(place),
+            },
+            Refusal::NoSentence(place) => Refused {
+                number: 3,
+                place: Some(place),
+            },
         }
     }
 }
@@ -90,7 +106,10 @@ fn build(text: &[u8], table: &mut Table<'_, Entry>) -> Result<usize, Refusal>
         Err(tokens::Refusal::TooLong) => return Err(Refusal::TooLong),
         Err(tokens::Refusal::NoToken(place)) => return Err(Refusal::NoToken(place)),
     }
-    let src = Source { text, tokens: tokens.items() };
+    let src = Source {
+        text,
+        tokens: tokens.items(),
+    };
     match parse(&src, table) {
         Ok(root) => Ok(root),
         Err(at) => Err(Refusal::NoSentence(place_of(&src, at))),
@@ -100,7 +119,10 @@ fn build(text: &[u8], table: &mut Table<'_, Entry>) -> Result<usize, Refusal>
 /// Reads a text into a draft, whose tree stands in the slots.
 ///
 /// A refusal hands the slots back: as they were where the text is too long or the slots are too few, else all empty.
-pub fn read<'t>(text: &'t [u8], slots: &'t mut [Entry]) -> Result<Draft<'t>, (Refusal, &'t mut [Entry])>
+pub fn read<'t>(
+    text: &'t [u8],
+    slots: &'t mut [Entry],
+) -> Result<Draft<'t>, (Refusal, &'t mut [Entry])>
     ensures { λ r. ⌜ Cases r (Drafted (now (text .entry)) (now (slots .entry))) (λ e. Undrafted (now (text .entry)) (now (slots .entry)) (now (e .1)) (e .0)) ⌝ }
 {
     if text.len() > TEXT_MAX {
@@ -113,7 +135,11 @@ pub fn read<'t>(text: &'t [u8], slots: &'t mut [Entry]) -> Result<Draft<'t>, (Re
     match build(text, &mut table) {
         Ok(root) => {
             table.blank(Entry::Empty);
-            Ok(Draft { text, entries: table.release(), root })
+            Ok(Draft {
+                text,
+                entries: table.release(),
+                root,
+            })
         }
         Err(refusal) => {
             table.clear(Entry::Empty);

@@ -27,16 +27,28 @@ pub fn pattern(src: &Source<'_>, at: usize, table: &mut Table<'_, Entry>) -> Res
 {
     let place = src.place(at);
     if src.is(at, Mark::Minus) {
-        return Ok(Read { node: put(table, Entry::AnyPattern { place }), next: at + 1 });
+        return Ok(Read {
+            node: put(table, Entry::AnyPattern { place }),
+            next: at + 1,
+        });
     }
     if let Some(name) = src.name(at) {
-        return Ok(Read { node: put(table, Entry::NamePattern(name)), next: at + 1 });
+        return Ok(Read {
+            node: put(table, Entry::NamePattern(name)),
+            next: at + 1,
+        });
     }
     if let Some(numeral) = src.numeral(at) {
-        return Ok(Read { node: put(table, Entry::NumeralPattern(numeral)), next: at + 1 });
+        return Ok(Read {
+            node: put(table, Entry::NumeralPattern(numeral)),
+            next: at + 1,
+        });
     }
     if let Some(value) = src.truth(at) {
-        return Ok(Read { node: put(table, Entry::TruthPattern { place, value }), next: at + 1 });
+        return Ok(Read {
+            node: put(table, Entry::TruthPattern { place, value }),
+            next: at + 1,
+        });
     }
     if src.is(at, Mark::OpenBracket) {
         return sequence(src, place, at + 1, table);
@@ -45,24 +57,64 @@ pub fn pattern(src: &Source<'_>, at: usize, table: &mut Table<'_, Entry>) -> Res
     let at = src.want(at, Mark::OpenParen)?;
     let parts = patterns(src, at, Limit::Several, table)?;
     let next = src.want(parts.next, Mark::CloseParen)?;
-    Ok(Read { node: put(table, Entry::PartsPattern { place, kind: Collection::Tuple, first: parts.first }), next })
+    Ok(Read {
+        node: put(
+            table,
+            Entry::PartsPattern {
+                place,
+                kind: Collection::Tuple,
+                first: parts.first,
+            },
+        ),
+        next,
+    })
 }
 
 // [ ] | [ P (, P)* ], behind the `[` at this place
-fn sequence(src: &Source<'_>, place: usize, at: usize, table: &mut Table<'_, Entry>) -> Result<Read, usize>
+fn sequence(
+    src: &Source<'_>,
+    place: usize,
+    at: usize,
+    table: &mut Table<'_, Entry>,
+) -> Result<Read, usize>
     requires { ⌜ Fits (now src) at 1 (now table) ⌝ }
     ensures { λ r. ⌜ Came Job.pattern (sequence-tail place) (now (src .entry)) at false 1 (now (table .entry)) (now (table .exit)) (λ x. x .next) (PatternAt (now (src .entry))) r ⌝ }
 {
     if src.is(at, Mark::CloseBracket) {
-        return Ok(Read { node: put(table, Entry::PartsPattern { place, kind: Collection::Sequence, first: None }), next: at + 1 });
+        return Ok(Read {
+            node: put(
+                table,
+                Entry::PartsPattern {
+                    place,
+                    kind: Collection::Sequence,
+                    first: None,
+                },
+            ),
+            next: at + 1,
+        });
     }
     let parts = patterns(src, at, Limit::Any, table)?;
     let next = src.want(parts.next, Mark::CloseBracket)?;
-    Ok(Read { node: put(table, Entry::PartsPattern { place, kind: Collection::Sequence, first: parts.first }), next })
+    Ok(Read {
+        node: put(
+            table,
+            Entry::PartsPattern {
+                place,
+                kind: Collection::Sequence,
+                first: parts.first,
+            },
+        ),
+        next,
+    })
 }
 
 // P (, P)*
-fn patterns(src: &Source<'_>, at: usize, limit: Limit, table: &mut Table<'_, Entry>) -> Result<List, usize>
+fn patterns(
+    src: &Source<'_>,
+    at: usize,
+    limit: Limit,
+    table: &mut Table<'_, Entry>,
+) -> Result<List, usize>
     requires { ⌜ Fits (now src) at 1 (now table) ⌝ }
     ensures { λ r. ⌜ Came (Job.patterns (limitOf limit)) (body (Job.patterns (limitOf limit))) (now (src .entry)) at false 1 (now (table .entry)) (now (table .exit)) (λ x. x .next) (PatternsAt (now (src .entry))) r ⌝ }
 {
@@ -84,11 +136,25 @@ fn patterns(src: &Source<'_>, at: usize, limit: Limit, table: &mut Table<'_, Ent
 }
 
 // The parts behind one and its comma.
-fn further(src: &Source<'_>, part: Read, rest: Limit, table: &mut Table<'_, Entry>) -> Result<List, usize>
+fn further(
+    src: &Source<'_>,
+    part: Read,
+    rest: Limit,
+    table: &mut Table<'_, Entry>,
+) -> Result<List, usize>
     requires { ⌜ Sees (now src) (part .next) (isMark Comma) ⌝ ∗ ⌜ Fits (now src) (part .next + 1) 2 (now table) ⌝ }
     ensures { λ r. ⌜ ((l : StepLimit) (p : Pattern) → PatternAt (now (src .entry)) (items (now (table .entry))) part p → Came (Job.patterns l) (further-patterns l rest p) (now (src .entry)) (part .next + 1) false 2 (now (table .entry)) (now (table .exit)) (λ x. x .next) (PatternsAt (now (src .entry))) r) ⌝ }
 {
     let more = patterns(src, part.next + 1, rest, table)?;
-    let first = put(table, Entry::Item { node: part.node, next: more.first });
-    Ok(List { first: Some(first), next: more.next })
+    let first = put(
+        table,
+        Entry::Item {
+            node: part.node,
+            next: more.first,
+        },
+    );
+    Ok(List {
+        first: Some(first),
+        next: more.next,
+    })
 }

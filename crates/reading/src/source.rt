@@ -14,9 +14,9 @@ ghost use Rattle.reading.specs.Sources.{TokenAt, placeAt, Looks, Wants, Found,
 ghost use Rattle.reading.specs.Signs.{leftOf, leadOf, operationOf};
 use crate::Entry;
 use crate::Span;
-use crate::signs::Operation;
 use crate::signs::Lead;
 use crate::signs::Left;
+use crate::signs::Operation;
 use crate::signs::chain_sign;
 use crate::signs::lead_sign;
 use crate::signs::relation_sign;
@@ -143,7 +143,10 @@ fn name_span(token: Token) -> Option<Span>
     ensures { λ r. ⌜ Shows token is-name IsName r ⌝ }
 {
     match token.kind {
-        Kind::Name => Some(Span { place: token.place, len: token.len }),
+        Kind::Name => Some(Span {
+            place: token.place,
+            len: token.len,
+        }),
         _ => None,
     }
 }
@@ -152,7 +155,10 @@ fn numeral_span(token: Token) -> Option<Span>
     ensures { λ r. ⌜ Shows token is-numeral IsNumeral r ⌝ }
 {
     match token.kind {
-        Kind::Numeral => Some(Span { place: token.place, len: token.len }),
+        Kind::Numeral => Some(Span {
+            place: token.place,
+            len: token.len,
+        }),
         _ => None,
     }
 }
@@ -161,7 +167,11 @@ impl Source<'_> {
     fn token(&self, at: usize) -> Option<Token>
         ensures { λ r. ⌜ TokenAt (now (self .entry)) at r ⌝ }
     {
-        if at < self.tokens.len() { Some(self.tokens[at]) } else { None }
+        if at < self.tokens.len() {
+            Some(self.tokens[at])
+        } else {
+            None
+        }
     }
 
     // The place of a token.
@@ -188,7 +198,11 @@ impl Source<'_> {
     pub fn want(&self, at: usize, mark: Mark) -> Result<usize, usize>
         ensures { λ r. ⌜ Wants (now (self .entry)) at (isMark mark) r ⌝ }
     {
-        if self.is(at, mark) { Ok(at + 1) } else { Err(at) }
+        if self.is(at, mark) {
+            Ok(at + 1)
+        } else {
+            Err(at)
+        }
     }
 
     pub fn name(&self, at: usize) -> Option<Span>
@@ -284,6 +298,15 @@ pub fn last(part: Read, table: &mut Table<'_, Entry>) -> List
     ensures first { λ r. ⌜ r .first ≡ Some (length (itemsOf (now (table .entry)))) ⌝ }
     ensures next { λ r. ⌜ r .next ≡ part .next ⌝ }
 {
-    let first = put(table, Entry::Item { node: part.node, next: None });
-    List { first: Some(first), next: part.next }
+    let first = put(
+        table,
+        Entry::Item {
+            node: part.node,
+            next: None,
+        },
+    );
+    List {
+        first: Some(first),
+        next: part.next,
+    }
 }

@@ -33,4 +33,4 @@ returns c =
     let s = c .args .src .now in
     let g = c .in-Continue-whole .ensures tt in
     let all = subst (Comes Sort.expr (lexemes s) (Some (g .value))) (past-text s (c .in-Continue-whole .whole .next) (c .if-whole-src .left)) (g .then, g .run) in
-    (g .value, (sound Sort.expr (lexemes s) (g .value) all, (g .held, g .slots)))
+    (g .value, (sound Sort.expr (lexemes s) (g .value) all, (g .held, (g .slots, omega (arith, g .few, g .inside)))))

@@ -14,7 +14,7 @@ returns-in-Ok c =
     let t = c .build .last .table in
     let t′ = c .blank .last .self in
     let whole = sym (take-append-drop (t′ .len) (t′ .slots .now)) in
-    let left : length (spare t) ≡ length (c .args .slots .now) - length (items t) = omega (arith, length-drop (t .len) (t .slots .now), length-take (t .len) (t .slots .now), f .1 .1 .1 .1, c .make-table .ensures .room) in
+    let left : length (spare t) ≡ length (c .args .slots .now) - length (items t) = omega (arith, length-drop (t .len) (t .slots .now), length-take (t .len) (t .slots .now), f .1 .1 .1 .1 .0, c .make-table .ensures .room) in
     record {
       short = c .if-text-gt-TEXT-MAX .left;
       large = c .if-slots-lt-TEXT-MAX .left;
@@ -24,5 +24,6 @@ returns-in-Ok c =
       same-text = refl;
       nodes = items t;
       held = f .1 .1 .1 .0;
+      few = f .1 .1 .1 .1 .1;
       entries = c .release .ensures ∙ whole ∙ ap (λ us. us ++ spare t′) (c .blank .ensures .items) ∙ ap (λ us. items t ++ us) (c .blank .ensures .spare) ∙ ap (λ n. items t ++ replicate n entry.Empty) left;
     }

@@ -17,9 +17,11 @@ loop-i-again g c =
     let i = c .loop-i .i in
     let start = c .args .start in
     let front = take start (c .args .slots .now) in
-    let next : i - start + 1 ≡ i + 1 - start = omega (arith, c .loop-i .inv .0) in
-    (omega (arith, c .loop-i .inv .0), omega (arith, c .loop-i .inv .1, c .loop-i-test .taken, c .loop-i .kept .slots),
-     take-more-set (c .loop-i .slots) i (c .args .x) (c .loop-i-test .taken) ∙ ap (λ us. us ++ c .args .x ∷ []) (c .loop-i .inv .2) ∙ append-assoc front (replicate (i - start) (c .args .x)) (c .args .x ∷ []) ∙ ap (λ us. front ++ us) (replicate-more (i - start) (c .args .x)) ∙ ap (λ n. front ++ replicate n (c .args .x)) next)
+    let next : i - start + 1 ≡ i + 1 - start = omega (arith, c .loop-i .inv .0) in (
+      omega (arith, c .loop-i .inv .0),
+      omega (arith, c .loop-i .inv .1, c .loop-i-test .taken, c .loop-i .kept .slots),
+      take-more-set (c .loop-i .slots) i (c .args .x) (c .loop-i-test .taken) ∙ ap (λ us. us ++ c .args .x ∷ []) (c .loop-i .inv .2) ∙ append-assoc front (replicate (i - start) (c .args .x)) (c .args .x ∷ []) ∙ ap (λ us. front ++ us) (replicate-more (i - start) (c .args .x)) ∙ ap (λ n. front ++ replicate n (c .args .x)) next,
+    )
 
 pub returns : need.returns
 returns g c =
