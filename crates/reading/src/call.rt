@@ -71,6 +71,41 @@ pub struct Draft<'t> {
     root: usize,
 }
 
+impl<'t> Draft<'t> {
+    /// The text that it was read from.
+    pub fn text(&self) -> &[u8]
+        ensures { λ r. ⌜ now r ≡ now (self .entry) .text .now ⌝ }
+    {
+        self.text
+    }
+
+    /// The entries of its tree; behind them every slot is empty.
+    pub fn entries(&self) -> &[Entry]
+        ensures { λ r. ⌜ now r ≡ now (self .entry) .entries .now ⌝ }
+    {
+        self.entries
+    }
+
+    /// The index of the root's entry.
+    pub fn root(&self) -> usize
+        ensures { λ r. ⌜ r ≡ now (self .entry) .root ⌝ }
+    {
+        self.root
+    }
+
+    /// Ends it, and gives its slots back.
+    pub fn release(self) -> &'t [Entry]
+        ensures { λ r. ⌜ now r ≡ self .entry .entries .now ⌝ }
+    {
+        let Draft {
+            text: _,
+            entries: slots,
+            root: _,
+        } = self;
+        slots
+    }
+}
+
 // The place of token number `at`, or the text's length behind the last.
 fn place_of(src: &Source<'_>, at: usize) -> usize
     ensures { λ r. ⌜ r ≡ badPlace (now (src .entry)) at ⌝ }

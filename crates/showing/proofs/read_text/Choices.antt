@@ -1,6 +1,6 @@
 use Prim.Native.Nat.{_-_, _≤_}
 use lib.ListN.{length}
-use Rattle.verdict.proofs.read_text.Given as given
+use Rattle.showing.proofs.read_text.Given as given
 
 abbrev pub Inv-loop-n : given.InvT-loop-n
 Inv-loop-n l = l .n ≤ length (l .entry .buffer)
