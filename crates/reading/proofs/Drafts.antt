@@ -1,6 +1,6 @@
 -- From tokens and tree to the promises of `read`.
 use native.Mathlib.Omega.{arith}
-use Prim.Native.Nat.{ℕ, _-_, _≤_, _<_}
+use Prim.Native.Nat.{ℕ, suc, _-_, _≤_, _<_}
 use mathlib.Core.Path.{_≡_, refl, sym, ap, subst, _∙_}
 use mathlib.Core.Logic.{_⊎_, inl, inr}
 use mathlib.Core.List.{List, [], _∷_, _++_, map}
@@ -15,10 +15,14 @@ use Rattle.tables.specs.Items.{items, spare}
 use Rattle.tokens.specs.declared.Token.{Token}
 use Rattle.tokens.specs.declared.Refusal.{Refusal as TokenRefusal}
 use Rattle.tokens.specs.declared.Refusal.the-variants as token
-use Rattle.tokens.specs.Lexeme.{lexeme}
-use Rattle.tokens.specs.Pieces.{Cut}
+use Rattle.tokens.specs.Lexeme.{Lexeme, lexeme}
+use Rattle.tokens.specs.Pieces.{Cut, at-end, at-separator, at-comment, at-token, at-bad}
 use Rattle.tokens.specs.Cutting.{Answers, CutInto, Tokenised}
+use Rattle.tokens.proofs.Forms.{longest-some}
 use Rattle.tokens.proofs.Unique.{one-cutting}
+use Rattle.std.proofs.shelf.Lists.{length-map}
+use Rattle.grammar.specs.Places.{places, Distinct, Ascend, spots}
+use Rattle.grammar.proofs.Places.{own-places}
 use Rattle.grammar.specs.Grammar.{Sort, Derives}
 use Rattle.grammar.specs.Steps.{first}
 use Rattle.grammar.specs.Sentences.{Accepted, Refused}
@@ -70,3 +74,21 @@ module _ (text : List ℕ) (t t′ : Table Token) (empty : items t ≡ []) where
       go : (bad : Option ℕ) → Answers bad (Err token.TooLong) → ⊥
       go None a = let z : _≡_ {A = ℕ} 0 1 = cc in omega arith
       go (Some q) a = omega (arith, ap (λ r. r .number) a)
+
+-- the places of a text's tokens ascend
+ascends : {n : ℕ} {bs : List ℕ} {ts : List Token} {bad : Option ℕ} (text : List ℕ) → Cut n bs ts bad → (m : ℕ) → m ≤ n → Ascend m (map (lexeme text) ts)
+ascends text at-end m h = tt
+ascends text (at-separator s c) m h = ascends text c m (omega arith)
+ascends text (at-comment s c) m h = ascends text c m (omega arith)
+ascends {n} text (at-token b c) m h = (h, ascends text c (suc n) (omega (arith, longest-some (b .longest))))
+ascends text (at-bad b) m h = tt
+
+length-spots : (us : List Lexeme) → length (spots us) ≡ length us
+length-spots [] = refl
+length-spots (x ∷ us) = ap suc (length-spots us)
+
+pub places-apart : (text : List ℕ) (tree : Tree) → Sentence text tree → Distinct (places tree)
+places-apart text tree s = own-places .distinct Sort.expr _ tree (s .derived) (ascends text (s .cut) 0 (omega arith))
+
+pub places-own : (text : List ℕ) (tree : Tree) (s : Sentence text tree) → length (places tree) ≤ length (s .tokens)
+places-own text tree s = omega (arith, own-places .few Sort.expr _ tree (s .derived), length-spots (map (lexeme text) (s .tokens)), length-map (s .tokens) (lexeme text))

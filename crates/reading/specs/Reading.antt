@@ -18,6 +18,7 @@ use Rattle.tokens.specs.Pieces.{Cut}
 use Rattle.grammar.specs.Grammar.{Sort, Derives}
 use Rattle.grammar.specs.Steps.{first}
 use Rattle.grammar.specs.Sentences as sentences
+use Rattle.grammar.specs.Places.{places, Distinct}
 use Rattle.reading.specs.declared.entry.Entry.{Entry}
 use Rattle.reading.specs.declared.entry.Entry.the-variants as entry
 use Rattle.reading.specs.declared.source.Source.{Source}
@@ -53,13 +54,15 @@ pub record Sentence (text : List ℕ) (tree : Tree) : Type 0 where
   pub cut : Cut 0 text tokens None
   pub derived : Derives Sort.expr (map (lexeme text) tokens) tree
 
--- the draft holds the text's one tree, in at most as many entries as the text has bytes; behind them every slot is empty
+-- the draft holds the text's one tree, whose expressions and patterns have different places, no more than there are tokens; it stands in at most as many entries as the text has bytes; behind them every slot is empty
 pub record Drafted (text : List ℕ) (before : List Entry) (d : Draft) : Type 0 where
   pub short : length text ≤ 2048
   pub large : 2048 ≤ length before
   pub tree : Tree
   pub sentence : Sentence text tree
   pub only : (u : Tree) → Sentence text u → u ≡ tree
+  pub apart : Distinct (places tree)
+  pub own : length (places tree) ≤ length (sentence .tokens)
   pub same-text : d .text .now ≡ text
   pub nodes : List Entry
   pub held : Holds text nodes (d .root) tree

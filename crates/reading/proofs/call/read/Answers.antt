@@ -6,6 +6,7 @@ use lib.ListN.{length, take, drop, replicate, take-append-drop, length-drop}
 use Rattle.std.proofs.shelf.Lists.{length-take}
 use Rattle.tables.specs.Items.{items, spare, slots, room}
 use Rattle.reading.specs.declared.entry.Entry.the-variants as entry
+use Rattle.reading.proofs.Drafts.{places-apart, places-own}
 use Rattle.reading.proofs.call.read.Needs as need
 
 pub returns-in-Ok : need.returns-in-Ok
@@ -21,6 +22,8 @@ returns-in-Ok c =
       tree = f .0;
       sentence = f .1 .0;
       only = f .1 .1 .0;
+      apart = places-apart (c .args .text .now) (f .0) (f .1 .0);
+      own = places-own (c .args .text .now) (f .0) (f .1 .0);
       same-text = refl;
       nodes = items t;
       held = f .1 .1 .1 .0;
