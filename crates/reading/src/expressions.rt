@@ -39,7 +39,7 @@ use tables::Table;
 use tokens::Mark;
 
 // E = let .. | if .. | cases .. | forall .. | exists .. | C
-pub fn expr(
+pub(crate) fn expr(
     src: &Source<'_>,
     at: usize,
     inside: bool,

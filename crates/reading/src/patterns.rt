@@ -21,7 +21,11 @@ use tables::Table;
 use tokens::Mark;
 
 // P = - | name | numeral | true | false | [ ] | [ P (, P)* ] | mk_ ( P , P ... )
-pub fn pattern(src: &Source<'_>, at: usize, table: &mut Table<'_, Entry>) -> Result<Read, usize>
+pub(crate) fn pattern(
+    src: &Source<'_>,
+    at: usize,
+    table: &mut Table<'_, Entry>,
+) -> Result<Read, usize>
     requires { ⌜ Fits (now src) at 0 (now table) ⌝ }
     ensures { λ r. ⌜ Came Job.pattern (body Job.pattern) (now (src .entry)) at false 0 (now (table .entry)) (now (table .exit)) (λ x. x .next) (PatternAt (now (src .entry))) r ⌝ }
 {

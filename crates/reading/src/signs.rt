@@ -125,7 +125,7 @@ fn equal_lead(a: Lead, b: Lead) -> bool
 }
 
 // The operation of a sign of this level.
-pub fn chain_sign(level: Left, kind: Kind) -> Option<Operation>
+pub(crate) fn chain_sign(level: Left, kind: Kind) -> Option<Operation>
     ensures { λ r. ⌜ Tells kind (joins (leftOf level)) (λ s o. operationOf o ≡ operation (infix-at s)) r ⌝ }
 {
     let Kind::Mark(mark) = kind else {
@@ -144,7 +144,7 @@ pub fn chain_sign(level: Left, kind: Kind) -> Option<Operation>
 }
 
 // The operation of a relation.
-pub fn relation_sign(kind: Kind) -> Option<Binary>
+pub(crate) fn relation_sign(kind: Kind) -> Option<Binary>
     ensures { λ r. ⌜ Tells kind relates (λ s o. o ≡ relation-of (infix-at s)) r ⌝ }
 {
     let Kind::Mark(mark) = kind else {
@@ -157,7 +157,7 @@ pub fn relation_sign(kind: Kind) -> Option<Binary>
 }
 
 // The operation of a prefix sign of this level.
-pub fn lead_sign(level: Lead, kind: Kind) -> Option<Unary>
+pub(crate) fn lead_sign(level: Lead, kind: Kind) -> Option<Unary>
     ensures { λ r. ⌜ Tells kind (leads (leadOf level)) (λ s o. o ≡ unary-of (prefix-at s)) r ⌝ }
 {
     let Kind::Mark(mark) = kind else {

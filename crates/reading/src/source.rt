@@ -73,7 +73,7 @@ pub enum Bracket {
     Square,
 }
 
-pub fn closing(bracket: Bracket) -> Mark
+pub(crate) fn closing(bracket: Bracket) -> Mark
     ensures { λ r. ⌜ r ≡ closingOf (bracketOf bracket) ⌝ }
 {
     match bracket {
@@ -82,7 +82,7 @@ pub fn closing(bracket: Bracket) -> Mark
     }
 }
 
-pub fn collected(bracket: Bracket) -> Collection
+pub(crate) fn collected(bracket: Bracket) -> Collection
     ensures { λ r. ⌜ r ≡ kindOf (bracketOf bracket) ⌝ }
 {
     match bracket {
@@ -107,7 +107,7 @@ pub enum After {
     Last,
 }
 
-pub fn following(limit: Limit) -> After
+pub(crate) fn following(limit: Limit) -> After
     ensures { λ r. ⌜ afterOf r ≡ nextOf (limitOf limit) ⌝ }
 {
     match limit {
@@ -175,7 +175,7 @@ impl Source<'_> {
     }
 
     // The place of a token.
-    pub fn place(&self, at: usize) -> usize
+    pub(crate) fn place(&self, at: usize) -> usize
         ensures { λ r. ⌜ r ≡ placeAt (now (self .entry)) at ⌝ }
     {
         match self.token(at) {
@@ -185,7 +185,7 @@ impl Source<'_> {
     }
 
     // Is this mark here?
-    pub fn is(&self, at: usize, mark: Mark) -> bool
+    pub(crate) fn is(&self, at: usize, mark: Mark) -> bool
         ensures { λ r. ⌜ Looks (now (self .entry)) at (isMark mark) r ⌝ }
     {
         match self.token(at) {
@@ -195,7 +195,7 @@ impl Source<'_> {
     }
 
     // The number of the token behind this mark, or of the one that stands in its place.
-    pub fn want(&self, at: usize, mark: Mark) -> Result<usize, usize>
+    pub(crate) fn want(&self, at: usize, mark: Mark) -> Result<usize, usize>
         ensures { λ r. ⌜ Wants (now (self .entry)) at (isMark mark) r ⌝ }
     {
         if self.is(at, mark) {
@@ -205,7 +205,7 @@ impl Source<'_> {
         }
     }
 
-    pub fn name(&self, at: usize) -> Option<Span>
+    pub(crate) fn name(&self, at: usize) -> Option<Span>
         ensures { λ r. ⌜ Found (now (self .entry)) at is-name (IsName (now (self .entry) .text .now)) r ⌝ }
     {
         match self.token(at) {
@@ -214,7 +214,7 @@ impl Source<'_> {
         }
     }
 
-    pub fn numeral(&self, at: usize) -> Option<Span>
+    pub(crate) fn numeral(&self, at: usize) -> Option<Span>
         ensures { λ r. ⌜ Found (now (self .entry)) at is-numeral (IsNumeral (now (self .entry) .text .now)) r ⌝ }
     {
         match self.token(at) {
@@ -223,7 +223,7 @@ impl Source<'_> {
         }
     }
 
-    pub fn truth(&self, at: usize) -> Option<bool>
+    pub(crate) fn truth(&self, at: usize) -> Option<bool>
         ensures { λ r. ⌜ Found (now (self .entry)) at is-truth IsTruth r ⌝ }
     {
         if self.is(at, Mark::True) {
@@ -235,7 +235,7 @@ impl Source<'_> {
         }
     }
 
-    pub fn quantifier(&self, at: usize) -> Option<Quantifier>
+    pub(crate) fn quantifier(&self, at: usize) -> Option<Quantifier>
         ensures { λ r. ⌜ Found (now (self .entry)) at is-quantifier IsQuantifier r ⌝ }
     {
         if self.is(at, Mark::Forall) {
@@ -248,7 +248,7 @@ impl Source<'_> {
     }
 
     // The operation of a sign of this level.
-    pub fn chained(&self, at: usize, level: Left) -> Option<Operation>
+    pub(crate) fn chained(&self, at: usize, level: Left) -> Option<Operation>
         ensures { λ r. ⌜ Found (now (self .entry)) at (joins (leftOf level)) (λ x o. operationOf o ≡ operation (infix-at (x .symbol))) r ⌝ }
     {
         match self.token(at) {
@@ -258,7 +258,7 @@ impl Source<'_> {
     }
 
     // The operation of a relation.
-    pub fn relating(&self, at: usize) -> Option<Binary>
+    pub(crate) fn relating(&self, at: usize) -> Option<Binary>
         ensures { λ r. ⌜ Found (now (self .entry)) at relates (λ x o. o ≡ relation-of (infix-at (x .symbol))) r ⌝ }
     {
         match self.token(at) {
@@ -268,7 +268,7 @@ impl Source<'_> {
     }
 
     // The operation of a prefix sign of this level.
-    pub fn leading(&self, at: usize, level: Lead) -> Option<Unary>
+    pub(crate) fn leading(&self, at: usize, level: Lead) -> Option<Unary>
         ensures { λ r. ⌜ Found (now (self .entry)) at (leads (leadOf level)) (λ x o. o ≡ unary-of (prefix-at (x .symbol))) r ⌝ }
     {
         match self.token(at) {
@@ -279,7 +279,7 @@ impl Source<'_> {
 }
 
 // Adds an entry to a table that has a slot left.
-pub fn put(table: &mut Table<'_, Entry>, entry: Entry) -> usize
+pub(crate) fn put(table: &mut Table<'_, Entry>, entry: Entry) -> usize
     requires { ⌜ length (itemsOf (now table)) < room (now table) ⌝ }
     ensures items { λ _. ⌜ itemsOf (now (table .exit)) ≡ itemsOf (now (table .entry)) ++ entry ∷ [] ⌝ }
     ensures room { λ _. ⌜ room (now (table .exit)) ≡ room (now (table .entry)) ⌝ }
@@ -291,7 +291,7 @@ pub fn put(table: &mut Table<'_, Entry>, entry: Entry) -> usize
 }
 
 // The last part of a list.
-pub fn last(part: Read, table: &mut Table<'_, Entry>) -> List
+pub(crate) fn last(part: Read, table: &mut Table<'_, Entry>) -> List
     requires { ⌜ length (itemsOf (now table)) < room (now table) ⌝ }
     ensures items { λ _. ⌜ itemsOf (now (table .exit)) ≡ itemsOf (now (table .entry)) ++ Entry.Item (part .node) None ∷ [] ⌝ }
     ensures room { λ _. ⌜ room (now (table .exit)) ≡ room (now (table .entry)) ⌝ }
