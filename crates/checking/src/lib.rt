@@ -1,4 +1,7 @@
 //! Drafts to checked rules.
+
+#![tactic(auto)]
+
 mod call;
 mod findings;
 mod scope;

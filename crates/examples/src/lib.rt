@@ -1,5 +1,7 @@
 //! Worked examples of the operators on cells.
 
+#![tactic(auto)]
+
 #[cfg(test)]
 mod tests {
     use syntax::{Binary, Unary};

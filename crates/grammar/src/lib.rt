@@ -2,6 +2,9 @@
 //!
 //! `specs/Grammar.antt` has the grammar, `specs/Steps.antt` the program that a reader follows, with one token of look-ahead and two at `in`.
 //! The functions below do nothing: each has a theorem for its contract.
+
+#![tactic(auto)]
+
 ghost use Rattle.grammar.specs.Sentences.{OneTree, OneOutcome, Complete, Sound, FirstBad};
 ghost use Rattle.grammar.specs.Examples.{Examples};
 ghost use Rattle.grammar.specs.Places.{OwnPlaces};

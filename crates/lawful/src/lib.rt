@@ -1,5 +1,7 @@
 //! Which cells are a lawful value.
 
+#![tactic(auto)]
+
 ghost use Rattle.std.specs.Prelude.{◌≡◌, ℕ, ◌≤◌, true, length};
 ghost use Rattle.values.specs.Value.{Value, cells};
 ghost use Rattle.values.specs.Lawful.{Lawful};

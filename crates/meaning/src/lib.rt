@@ -1,5 +1,7 @@
 //! What a rule means: the evaluation of its tree under facts and a chooser. There is nothing to run here: each function's contract is a theorem.
 
+#![tactic(auto)]
+
 ghost use Rattle.meaning.specs.Examples.{Examples};
 ghost use Rattle.meaning.specs.Laws.{Choosing, Assigning, Naming, Beginning, Ordering, Matching, Casing, Connecting, Quantifying, Letting, Comprehending, Duality, Vacuous, Lawfulness};
 

@@ -1,5 +1,7 @@
 //! Numbers from −2,147,483,647 to 2,147,483,647.
 
+#![tactic(auto)]
+
 ghost use Rattle.std.specs.Prelude.{◌≡◌, true, ℤ, pos, ◌+ℤ◌, ◌-ℤ◌, ◌*ℤ◌, neg_ℤ, ◌≢◌, unsigned_abs};
 ghost use Rattle.values.specs.Lawful.{in_range};
 ghost use Rattle.values.specs.Numbers.{quotient as quotient_of, remainder as remainder_of, modulus as modulus_of};

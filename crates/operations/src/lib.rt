@@ -2,6 +2,8 @@
 //!
 //! Each writes the cells of its value at the start of `out` and tells how many they are, or tells the fault. What `out` holds past them, or beside the fault of a value that is too large, is left open; beside any other fault it is as it was.
 
+#![tactic(auto)]
+
 ghost use Rattle.std.specs.Prelude.{◌≡◌, ℕ, ◌≤◌, Bool, true, not, ◌&&◌, List, [], ◌∷◌, ◌++◌, length, take, ℤ, pos, IfOk, if◌then◌else◌, Ok, Err, OnErr, slice_index_or};
 ghost use Rattle.std.specs.Ordering.{is_eq};
 ghost use Rattle.syntax.specs.declared.Collection.{Collection as Kind};

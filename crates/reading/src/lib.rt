@@ -1,4 +1,7 @@
 //! Texts to drafts: the tree of a rule, as entries of a table.
+
+#![tactic(auto)]
+
 mod call;
 mod entry;
 mod expressions;

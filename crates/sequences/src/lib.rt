@@ -1,5 +1,7 @@
 //! Members by number, sequences and ranges.
 
+#![tactic(auto)]
+
 ghost use Rattle.std.specs.Prelude.{◌≡◌, ℕ, ◌+◌, ◌-◌, ◌*◌, ◌^◌, ◌<◌, ◌≤◌, List, [], ◌∷◌, ◌++◌, length, take, pos, ◌+ℤ◌, ◌≤ℤ◌, ◌<ℤ◌, IfOk, Ok, Err, MatchResult, slice_index_or};
 ghost use Rattle.syntax.specs.declared.Collection.{Collection};
 ghost use Rattle.syntax.specs.declared.Collection.TheVariants.{Set, Sequence};

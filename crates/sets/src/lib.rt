@@ -1,5 +1,7 @@
 //! Sets: their members ascend, so that two of them are walked through side by side.
 
+#![tactic(auto)]
+
 ghost use Rattle.std.specs.Prelude.{◌≡◌, ℕ, ◌+◌, ◌-◌, ◌<◌, ◌≤◌, true, List, [], ◌∷◌, ◌++◌, length, take, ℤ, IfOk, if◌then◌else◌, MatchResult, OnErr};
 ghost use Rattle.syntax.specs.declared.Collection.{Collection};
 ghost use Rattle.syntax.specs.declared.Collection.TheVariants.{Set};

@@ -1,4 +1,7 @@
 //! What programs that show drafts share: input, and how a refusal and a tree are written.
+
+#![tactic(auto)]
+
 ghost use Rattle.std.specs.Prelude.{◌≤◌, length, IfOk};
 
 use reading::{Draft, Entry, Span};

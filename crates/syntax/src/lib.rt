@@ -1,5 +1,7 @@
 //! The operators of the rule language, grouped by how they are evaluated, and what a refusal tells.
 
+#![tactic(auto)]
+
 /// A refusal as it is told: its number, and its place where it has one.
 #[derive(Clone, Copy, Debug, PartialEq, Eq)]
 pub struct Refused {

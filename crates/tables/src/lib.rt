@@ -1,6 +1,9 @@
 //! A table of `T` over memory that is lent to it: its items stand in the first `len` slots, in the order in which they were pushed.
 //!
 //! It allocates nothing. Tokens, tree entries, instructions and cells all stand in such tables.
+
+#![tactic(auto)]
+
 mod ops;
 
 pub use ops::Full;

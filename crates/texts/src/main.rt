@@ -1,4 +1,7 @@
 //! Reads texts from standard input, one to a line, and writes for each its refusal or its tree. A `~` stands for a line feed.
+
+#![tactic(auto)]
+
 use reading::{Entry, read};
 use showing::{Layout, read_text, show, write_refusal};
 use std::io;

@@ -1,4 +1,7 @@
 //! Bytes to tokens: the longest each time, with separators and comments skipped.
+
+#![tactic(auto)]
+
 mod cut;
 mod marks;
 

@@ -1,5 +1,7 @@
 //! Values as cells: pairs of kind and content, one after another.
 
+#![tactic(auto)]
+
 ghost use Rattle.std.specs.Prelude.{◌≡◌, ℕ, ◌+◌, ◌-◌, ◌<◌, ◌≤◌, List, [], ◌∷◌, ◌++◌, length, take, drop, ℤ, pos, MatchResult, slice_index_or};
 ghost use Rattle.values.specs.Faults.{number as fault_number};
 ghost use Rattle.values.specs.Value.{within, past, by_cells, front};

@@ -1,4 +1,7 @@
 //! Reads a rule from standard input and writes its refusal, or, as long as the later stages are missing, its tree.
+
+#![tactic(auto)]
+
 use reading::{Entry, read};
 use showing::{Layout, read_text, show, write_refusal};
 use std::io;

@@ -1,5 +1,7 @@
 //! How values, faults, pauses and refusals are written.
 
+#![tactic(auto)]
+
 ghost use Rattle.std.specs.Prelude.{◌≡◌, ◌+◌, List, [], ℤ, Err};
 ghost use Rattle.values.specs.Value.{Value, Values, cells as cells_of, count as count_of, onto, ontos};
 ghost use Rattle.values.specs.Lawful.{Lawful};

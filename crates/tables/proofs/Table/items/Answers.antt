@@ -3,8 +3,8 @@ use Rattle.std.proofs.lemmas.List.{length-take}
 use Rattle.tables.proofs.Front.{take_short}
 use Rattle.tables.proofs.Table.items.Goals as goal
 
-pub slice-bounds-result-end : goal.slice-bounds-result-end
-slice-bounds-result-end g c = omega (arith, length-take c.args.self.now.len c.args.self.now.slots.now)
+pub slice_bounds-result-end : goal.slice_bounds-result-end
+slice_bounds-result-end g c = omega (arith, length-take c.args.self.now.len c.args.self.now.slots.now)
 
 pub returns : goal.returns
 returns g c = search (rules, take_short)

@@ -3,8 +3,8 @@ use lib.Seq.{take-set-lt}
 use Rattle.std.proofs.lemmas.List.{length-take}
 use Rattle.tables.proofs.Table.set.Goals as goal
 
-pub offset-bounds-self-i : goal.offset-bounds-self-i
-offset-bounds-self-i g c =
+pub offset_bounds-self-i : goal.offset_bounds-self-i
+offset_bounds-self-i g c =
     let h : c.args.i < length c.args.self.now.slots.now = omega (arith, length-take c.args.self.now.len c.args.self.now.slots.now) in
     search rules
 
