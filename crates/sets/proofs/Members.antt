@@ -1,6 +1,6 @@
 -- Sets in the words of membership.
 use Rattle.std.proofs.Common.{◌≡◌, ◌+◌, Bool, true, false, cond, not, ◌&&◌, ◌||◌, List, [], ◌∷◌, ◌++◌, length, Ordering, Less, Equal, Greater, sym, refl, ap, ◌∙◌, subst, true≢false, arith}
-use mathlib.Core.Bool.{or_false, or_assoc, or_comm, and-true, and-false}
+use mathlib.Core.Bool.{or-false, or_assoc, or_comm, and-true, and-false}
 use Rattle.std.proofs.lemmas.List.{length-append}
 use Rattle.std.specs.Ordering.{ordering_reverse, is_eq, is_lt}
 use Rattle.values.specs.Value.{Value, cells, compare}
@@ -101,7 +101,7 @@ sorted_insert v (w ∷ ws) s = go (compare v w) refl (sorted_insert v ws s.1)
 -- ---- many members more
 
 pub in_gathered : (u : Value) (ws vs : List Value) → member u (gathered ws vs) ≡ (member u ws || member u vs)
-in_gathered u ws [] = sym (or_false (member u ws))
+in_gathered u ws [] = sym (or-false (member u ws))
 in_gathered u ws (v ∷ vs) = in_gathered u (insert v ws) vs ∙ ap (λ b. b || member u vs) (in_insert u v ws) ∙ turn (equal u v) (member u ws) (member u vs)
   where
     turn : (a b c : Bool) → ((a || b) || c) ≡ (b || (a || c))

@@ -70,7 +70,7 @@ one_cutting (at_comment c x) (at_token d y) = absurd (d.no_comment c.opens)
 one_cutting (at_comment c x) (at_bad d) = absurd (d.no_comment c.opens)
 one_cutting (at_token c x) at_end = absurd (no_longest c.longest)
 one_cutting (at_token c x) (at_separator s y) = absurd (no_token c s)
-one_cutting (at_token c x) (at_comment d y) = absurd (c.no-comment d.opens)
+one_cutting (at_token c x) (at_comment d y) = absurd (c.no_comment d.opens)
 one_cutting {n} {bs} {b = b} (at_token {k = k} {kind = κ} c x) (at_token {k = l} {ts = vs} {kind = κ'} d y) =
     let same = same_longest d.longest c.longest in
     let more = one_cutting x (subst (λ i. Cut (n + i) (drop i bs) vs b) same y) in
@@ -78,7 +78,7 @@ one_cutting {n} {bs} {b = b} (at_token {k = k} {kind = κ} c x) (at_token {k = l
     (ap (λ i. token κ' n i ∷ vs) same ∙ ap (λ j. token j n k ∷ vs) kinds ∙ ap (λ ws. token κ n k ∷ ws) more.0, more.1)
 one_cutting (at_token c x) (at_bad d) = absurd (d.no_token _ _ c)
 one_cutting (at_bad c) at_end = absurd (not-suc-le-zero c.some)
-one_cutting (at_bad c) (at_separator s y) = absurd (c.no-separator s)
-one_cutting (at_bad c) (at_comment d y) = absurd (c.no-comment d.opens)
-one_cutting (at_bad c) (at_token d y) = absurd (c.no-token _ _ d)
+one_cutting (at_bad c) (at_separator s y) = absurd (c.no_separator s)
+one_cutting (at_bad c) (at_comment d y) = absurd (c.no_comment d.opens)
+one_cutting (at_bad c) (at_token d y) = absurd (c.no_token _ _ d)
 one_cutting (at_bad c) (at_bad d) = (refl, refl)

@@ -160,7 +160,7 @@ leads (many Tuple vs) xs h = record { byte = 109; rest = _; is = refl; no_closer
 not_closer : {P : Type 0} (v : Value) (xs : List ℕ) (c : ℕ) (cs : List ℕ) → ranged v ≡ true → closer c ≡ true → written v ++ xs ≡ c ∷ cs → P
 not_closer v xs c cs h g e =
     let l = leads v xs h in
-    apart l.byte c l.rest cs (λ f. true≢false (sym g ∙ ap closer (sym f) ∙ l.no-closer)) (sym l.is ∙ e)
+    apart l.byte c l.rest cs (λ f. true≢false (sym g ∙ ap closer (sym f) ∙ l.no_closer)) (sym l.is ∙ e)
 
 ends_none : {P : Type 0} (k : Collection) (v : Value) (xs ys : List ℕ) → ranged v ≡ true → written v ++ ys ≡ closing k ++ xs → P
 ends_none Set v xs ys h e = not_closer v ys 125 xs h refl e

@@ -17,15 +17,15 @@ returns-then-out-lt2 c =
           omega (arith, total Sequence us vs c.inner-x.result.now c.inner-y.result.now x y, c.count.ensures.is ∙ counted_of Sequence us c.args.a.now ea, c.count-2.ensures.is ∙ counted_of Sequence vs c.args.b.now eb);
     }
 
-pub returns-in-err-m : goal.returns-in-err-m
-returns-in-err-m c =
+pub returns-in_err-m : goal.returns-in_err-m
+returns-in_err-m c =
     record {
-      inside = MatchResult-from_err _ _ _ c.from-residual.ensures.0 (λ _. tt);
+      inside = MatchResult-from_err _ _ _ c.from_residual.ensures.0 (λ _. tt);
       made = λ us vs ea eb small.
           let x = inner_of Sequence us c.args.a.now c.inner-x.result.now ea c.inner-x.ensures in
           let y = inner_of Sequence vs c.args.b.now c.inner-y.result.now eb c.inner-y.ensures in
-          MatchResult-from_err _ _ _ c.from-residual.ensures.0 (λ _.
-          let h = simp length-set at c.in-err-m.ensures in
+          MatchResult-from_err _ _ _ c.from_residual.ensures.0 (λ _.
+          let h = simp length-set at c.in_err-m.ensures in
           omega (arith, h, total Sequence us vs c.inner-x.result.now c.inner-y.result.now x y));
     }
 
@@ -36,7 +36,7 @@ returns c =
       made = λ us vs ea eb small.
           let x = inner_of Sequence us c.args.a.now c.inner-x.result.now ea c.inner-x.ensures in
           let y = inner_of Sequence vs c.args.b.now c.inner-y.result.now eb c.inner-y.ensures in
-          let h = c.in-ok-m.ensures in
+          let h = c.in_ok-m.ensures in
           let members = c.count.result + c.count-2.result in
           let few : members < 2 ^ 31 = omega arith in
           let two : 2 ≤ length c.args.out.now = omega arith in

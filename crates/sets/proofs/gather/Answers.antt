@@ -42,17 +42,17 @@ pub loop-rest-init : goal.loop-rest-init
 loop-rest-init c =
     (simp length-set (omega arith), λ vs es l. (omega arith, ([], vs, es, pair_front c.args.out.now (pos 2) (pos 0) (omega arith), refl)))
 
-pub returns-in-err-n : goal.returns-in-err-n
-returns-in-err-n c =
+pub returns-in_err-n : goal.returns-in_err-n
+returns-in_err-n c =
     record {
-      inside = MatchResult-from_err _ _ _ c.from-residual-in-err-n.ensures.0 (λ _. tt);
+      inside = MatchResult-from_err _ _ _ c.from_residual-in_err-n.ensures.0 (λ _. tt);
       made = λ vs es l k.
           let h = c.loop-rest.invariant.1 vs es l in
           let some : 0 < length c.loop-rest.rest.now = search rules in
-          let a = c.in-ok-m.ensures in
-          let t = turn h.1.0 h.1.1 c.loop-rest.n c.in-ok-m.m c.append.new.out c.loop-rest.out c.loop-rest.rest.now c.split.result.0.now c.split.result.1.now h.1.2 h.1.3 c.loop-rest.invariant.0 some c.split.ensures.front c.split.ensures.back a.0 in
+          let a = c.in_ok-m.ensures in
+          let t = turn h.1.0 h.1.1 c.loop-rest.n c.in_ok-m.m c.append.new.out c.loop-rest.out c.loop-rest.rest.now c.split.result.0.now c.split.result.1.now h.1.2 h.1.3 c.loop-rest.invariant.0 some c.split.ensures.front c.split.ensures.back a.0 in
           let w = ap length c.split.ensures.whole ∙ length-append c.split.result.0.now c.split.result.1.now in
-          let g = c.in-err-n.ensures.made Set h.1.0 t.value t.part t.long (omega (arith, h.0)) in
+          let g = c.in_err-n.ensures.made Set h.1.0 t.value t.part t.long (omega (arith, h.0)) in
           absurd (omega (arith, g, cells-insert t.value h.1.0, t.long, t.short, w, h.0));
     }
 
@@ -60,19 +60,19 @@ pub loop-rest-preserved : goal.loop-rest-preserved
 loop-rest-preserved c =
     let x = c.split.result.0.now in
     let part = c.grow.new.s in
-    let post = post_of 0 (c.in-ok-m.m - 0) c.append.new.out in
-    let a = c.in-ok-m.ensures in
-    let i = c.in-ok-n.ensures.inside in
-    let k : c.in-ok-n.n ≤ length part = omega (arith, i, c.grow.auto.s) in
+    let post = post_of 0 (c.in_ok-m.m - 0) c.append.new.out in
+    let a = c.in_ok-m.ensures in
+    let i = c.in_ok-n.ensures.inside in
+    let k : c.in_ok-n.n ≤ length part = omega (arith, i, c.grow.auto.s) in
     let w = ap length c.split.ensures.whole ∙ length-append x c.split.result.1.now in (
       omega (arith, k, length-append part post),
       λ vs es l.
           let h = c.loop-rest.invariant.1 vs es l in
           let some : 0 < length c.loop-rest.rest.now = search rules in
-          let t = turn h.1.0 h.1.1 c.loop-rest.n c.in-ok-m.m c.append.new.out c.loop-rest.out c.loop-rest.rest.now x c.split.result.1.now h.1.2 h.1.3 c.loop-rest.invariant.0 some c.split.ensures.front c.split.ensures.back a.0 in
-          let g = c.in-ok-n.ensures.made Set h.1.0 t.value t.part t.long (omega (arith, h.0)) in (
+          let t = turn h.1.0 h.1.1 c.loop-rest.n c.in_ok-m.m c.append.new.out c.loop-rest.out c.loop-rest.rest.now x c.split.result.1.now h.1.2 h.1.3 c.loop-rest.invariant.0 some c.split.ensures.front c.split.ensures.back a.0 in
+          let g = c.in_ok-n.ensures.made Set h.1.0 t.value t.part t.long (omega (arith, h.0)) in (
             omega (arith, h.0, w, t.taken, i),
-            (insert t.value h.1.0, t.rest, t.more_is, take-append-le c.in-ok-n.n part post k ∙ g.0, ap (gathered h.1.0) (sym t.row_is) ∙ h.1.4),
+            (insert t.value h.1.0, t.rest, t.more_is, take-append-le c.in_ok-n.n part post k ∙ g.0, ap (gathered h.1.0) (sym t.row_is) ∙ h.1.4),
           ),
     )
 

@@ -9,10 +9,10 @@ use Rattle.sets.proofs.Turns.{turn, sides, falls, left_of, right_of, goes_on, no
 use Rattle.sets.proofs.weave.Goals as goal
 use Rattle.sets.proofs.weave.Goals.{then-x-gt0, else-x-gt0+then-y-gt0}
 
-pub returns-in-err-at : goal.returns-in-err-at
-returns-in-err-at c =
+pub returns-in_err-at : goal.returns-in_err-at
+returns-in_err-at c =
     record {
-      inside = MatchResult-from_err _ _ _ c.from-residual.ensures.0 (λ _. tt);
+      inside = MatchResult-from_err _ _ _ c.from_residual.ensures.0 (λ _. tt);
       made = λ us ts ea eb.
           let x = c.loop-x.x.now in
           let y = c.loop-x.y.now in
@@ -23,16 +23,16 @@ returns-in-err-at c =
           let p : c.keeps-keep.result ≡ keeps c.args.op (sides x y) = c.keeps-keep.ensures ∙ ap (keeps c.args.op) o in
           let next = taken (keeps c.args.op (sides x y)) (sides x y) (front x) (front y) in
           let n : c.taken.result.now ≡ next = c.taken.ensures ∙ (λ i. taken (p i) (o i) (c.split.ensures.front i) (c.split-in-loop-x.ensures.front i)) in
-          let l : length c.loop-x.out < c.loop-x.at + length next = omega (arith, c.in-err-at.ensures, ap length n) in
-          MatchResult-from_err _ _ _ c.from-residual.ensures.0 (λ _. no_room c.loop-x.out c.args.out.now next (row (merge (keeps c.args.op) h.0 h.1)) (row (merge (keeps c.args.op) t.left t.right)) (row (merge (keeps c.args.op) us ts)) c.loop-x.at c.args.n c.loop-x.invariant.0.1 c.requires c.loop-x.auto.out l t.cells_are h.4);
+          let l : length c.loop-x.out < c.loop-x.at + length next = omega (arith, c.in_err-at.ensures, ap length n) in
+          MatchResult-from_err _ _ _ c.from_residual.ensures.0 (λ _. no_room c.loop-x.out c.args.out.now next (row (merge (keeps c.args.op) h.0 h.1)) (row (merge (keeps c.args.op) t.left t.right)) (row (merge (keeps c.args.op) us ts)) c.loop-x.at c.args.n c.loop-x.invariant.0.1 c.requires c.loop-x.auto.out l t.cells_are h.4);
     }
 
 -- what the turn leaves of the two rows
 left_is : (c : goal.After-choose-y) → c.choose-x.result.now ≡ left_of c.loop-x.x.now c.loop-x.y.now (sides c.loop-x.x.now c.loop-x.y.now)
-left_is c = c.choose-x.ensures ∙ (λ i. cond ((c.is-le.ensures ∙ ap is_le (c.side-o.ensures ∙ (λ j. side (c.split.ensures.front j) (c.split-in-loop-x.ensures.front j)))) i) (c.split.ensures.back i) c.loop-x.x.now)
+left_is c = c.choose-x.ensures ∙ (λ i. cond ((c.is_le.ensures ∙ ap is_le (c.side-o.ensures ∙ (λ j. side (c.split.ensures.front j) (c.split-in-loop-x.ensures.front j)))) i) (c.split.ensures.back i) c.loop-x.x.now)
 
 right_is : (c : goal.After-choose-y) → c.choose-y.result.now ≡ right_of c.loop-x.x.now c.loop-x.y.now (sides c.loop-x.x.now c.loop-x.y.now)
-right_is c = c.choose-y.ensures ∙ (λ i. cond ((c.is-ge.ensures ∙ ap is_ge (c.side-o.ensures ∙ (λ j. side (c.split.ensures.front j) (c.split-in-loop-x.ensures.front j)))) i) (c.split-in-loop-x.ensures.back i) c.loop-x.y.now)
+right_is c = c.choose-y.ensures ∙ (λ i. cond ((c.is_ge.ensures ∙ ap is_ge (c.side-o.ensures ∙ (λ j. side (c.split.ensures.front j) (c.split-in-loop-x.ensures.front j)))) i) (c.split-in-loop-x.ensures.back i) c.loop-x.y.now)
 
 some_left : (c : goal.After-choose-y) → 0 < length c.loop-x.x.now + length c.loop-x.y.now
 some_left c = elim c.if-x-gt0.branch [ then-x-gt0 w ↦ omega (arith, w.if-x-gt0.true) | else-x-gt0+then-y-gt0 w ↦ omega (arith, w.if-y-gt0.true) ]
@@ -47,7 +47,7 @@ pub loop-x-preserved : goal.loop-x-preserved
 loop-x-preserved c =
     let x = c.loop-x.x.now in
     let y = c.loop-x.y.now in
-    let a = c.in-ok-at.ensures in
+    let a = c.in_ok-at.ensures in
     let o : c.side-o.result ≡ sides x y = c.side-o.ensures ∙ (λ i. side (c.split.ensures.front i) (c.split-in-loop-x.ensures.front i)) in
     let p : c.keeps-keep.result ≡ keeps c.args.op (sides x y) = c.keeps-keep.ensures ∙ ap (keeps c.args.op) o in
     let next = taken (keeps c.args.op (sides x y)) (sides x y) (front x) (front y) in
@@ -62,7 +62,7 @@ loop-x-preserved c =
             t.right,
             left_is c ∙ t.left_is,
             right_is c ∙ t.right_is,
-            goes_on (take c.loop-x.at c.loop-x.out) next (take c.in-ok-at.at c.append.new.out) (row (merge (keeps c.args.op) h.0 h.1)) (row (merge (keeps c.args.op) t.left t.right)) (take c.args.n c.args.out.now ++ row (merge (keeps c.args.op) us ts)) (a.0 ∙ ap (λ q. take c.loop-x.at c.loop-x.out ++ q) n) t.cells_are h.4,
+            goes_on (take c.loop-x.at c.loop-x.out) next (take c.in_ok-at.at c.append.new.out) (row (merge (keeps c.args.op) h.0 h.1)) (row (merge (keeps c.args.op) t.left t.right)) (take c.args.n c.args.out.now ++ row (merge (keeps c.args.op) us ts)) (a.0 ∙ ap (λ q. take c.loop-x.at c.loop-x.out ++ q) n) t.cells_are h.4,
             omega (arith, k, t.count_is, h.5),
           ),
     )

@@ -17,8 +17,8 @@ members-returns-then-count-eq0 t c vs xs m e =
     let z = none_left vs (sym m ∙ c.if-count-eq0.true) in
     (e ∙ ap (λ ws. ontos ws xs) z, adds_same _ _ [] (members vs) (adds_none c.args.line.now) (ap members (sym z)))
 
-pub members-value-rest-requires : goal.members-value-rest-requires
-members-value-rest-requires t c =
+pub members_value-rest-requires : goal.members_value-rest-requires
+members_value-rest-requires t c =
     (omega (arith, c.decreases), begins _ _ _ (first c.args.count c.args.cells.now c.args.line.now.len c.requires c.if-count-eq0.false))
 
 pub members-loop-init : goal.members-loop-init
@@ -32,8 +32,8 @@ members-push-requires t c =
     let x = next c.args.count c.loop.counter c.args.cells.now c.value-rest.result.now c.loop.rest.now c.args.line.now c.value-rest.new.line c.loop.line f c.value-rest.ensures c.loop.invariant c.loop-test.true in
     omega (arith, x.room)
 
-pub members-value-rest-requires-in-loop : goal.members-value-rest-requires-in-loop
-members-value-rest-requires-in-loop t c =
+pub members_value-rest-requires-in-loop : goal.members_value-rest-requires-in-loop
+members_value-rest-requires-in-loop t c =
     let f = first c.args.count c.args.cells.now c.args.line.now.len c.requires c.if-count-eq0.false in
     let x = next c.args.count c.loop.counter c.args.cells.now c.value-rest.result.now c.loop.rest.now c.args.line.now c.value-rest.new.line c.loop.line f c.value-rest.ensures c.loop.invariant c.loop-test.true in
     (omega (arith, c.decreases, c.loop.invariant.shorter), record { first = x.one; rest = x.rest_after; cells_are = x.cells_are; room = omega (arith, x.room, c.push.ensures.longer) })

@@ -12,8 +12,8 @@ number-requires-2 c = omega (arith, twenty_at_most c.from.result c.from.type-inv
 pub at-requires : goal.at-requires
 at-requires c = omega (arith, twenty_at_most c.from.result c.from.type-inv, c.new-line.ensures.len, c.push.ensures.longer, c.number-2.ensures.longer)
 
-pub copy-to-requires : goal.copy-to-requires
-copy-to-requires c =
+pub copy_to-requires : goal.copy_to-requires
+copy_to-requires c =
     omega (arith, twenty_at_most c.from.result c.from.type-inv, c.new-line.ensures.len, c.push.ensures.longer, c.number-2.ensures.longer, c.at.ensures.few)
 
 pub returns : goal.returns
@@ -27,4 +27,4 @@ returns c =
     let p = c.args.place in
     let b = adds_same l1 l2 (decimal c.from.result) (decimal n) c.number-2.ensures (ap decimal e) in
     let a = adds_then l0 l1 l3 (codes "fault ") (decimal n ++ at p) c.push.ensures (adds_then l1 l2 l3 (decimal n) (at p) b c.at.ensures.adds) in
-    writes_same _ (text l3) (fault c.args.fault p) c.args.out.now _ _ c.copy-to.ensures (full l0 l3 (fault c.args.fault p) c.new-line.ensures.empty a)
+    writes_same _ (text l3) (fault c.args.fault p) c.args.out.now _ _ c.copy_to.ensures (full l0 l3 (fault c.args.fault p) c.new-line.ensures.empty a)

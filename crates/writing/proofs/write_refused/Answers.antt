@@ -13,8 +13,8 @@ number-requires c = omega (arith, twenty_at_most c.from.result c.from.type-inv, 
 pub at-requires : goal.at-requires
 at-requires c = omega (arith, twenty_at_most c.from.result c.from.type-inv, c.new-line.ensures.len, c.push.ensures.longer, c.number.ensures.longer)
 
-pub copy-to-requires : goal.copy-to-requires
-copy-to-requires c =
+pub copy_to-requires : goal.copy_to-requires
+copy_to-requires c =
     let few = twenty_at_most c.from.result c.from.type-inv in
     elim c.match-refused.branch [
       | in-Some w ↦ omega (arith, ap (λ (l : Line). l.len) w.line-is, w.at.ensures.few, c.new-line.ensures.len, c.push.ensures.longer, c.number.ensures.longer)
@@ -38,4 +38,4 @@ returns c =
       | in-default w ↦ adds_same l2 l3 [] (at_any o) (subst (AddsTo l2 []) (sym w.line-is) (adds_none l2)) (ap at_any (sym w.in-default.is))
     ] in
     let a = adds_then l0 l1 l3 (codes "refused ") (decimal n ++ at_any o) c.push.ensures (adds_then l1 l2 l3 (decimal n) (at_any o) b d) in
-    writes_same _ (text l3) (refused c.args.refused) c.args.out.now _ _ c.copy-to.ensures (full l0 l3 (refused c.args.refused) c.new-line.ensures.empty a)
+    writes_same _ (text l3) (refused c.args.refused) c.args.out.now _ _ c.copy_to.ensures (full l0 l3 (refused c.args.refused) c.new-line.ensures.empty a)

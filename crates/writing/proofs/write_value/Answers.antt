@@ -17,8 +17,8 @@ value-requires c =
     let v = c.lawful.ensures.value c.if-not-lawful.false in
     record { first = v.0; rest = []; cells_are = v.1; room = omega (arith, bounded v.0 v.2, c.new-line.ensures.len) }
 
-pub copy-to-requires : goal.copy-to-requires
-copy-to-requires c =
+pub copy_to-requires : goal.copy_to-requires
+copy_to-requires c =
     let v = c.lawful.ensures.value c.if-not-lawful.false in
     omega (arith, bounded v.0 v.2, c.new-line.ensures.len, (c.value.ensures v.0 [] v.1).1.longer)
 

@@ -20,14 +20,14 @@ returns-in-Some c =
     let n = c.run-len.result in
     word_begins bs n c.requires c.run-len.ensures (kind.Mark c.in-Some.mark) (subst (λ w. spelling c.in-Some.mark ≡ w) (part bs n) c.in-Some.ensures)
 
-pub returns-then-obeys-rule : goal.returns-then-obeys-rule
-returns-then-obeys-rule c =
+pub returns-then-obeys_rule : goal.returns-then-obeys_rule
+returns-then-obeys_rule c =
     let bs = c.args.bytes.now in
     let n = c.run-len.result in
-    name_begins bs n c.requires c.run-len.ensures (subst Free (part bs n) c.in-None.ensures) (subst NameRule (part bs n) c.if-obeys-rule.ensures)
+    name_begins bs n c.requires c.run-len.ensures (subst Free (part bs n) c.in-None.ensures) (subst NameRule (part bs n) c.if-obeys_rule.ensures)
 
-pub returns-else-obeys-rule : goal.returns-else-obeys-rule
-returns-else-obeys-rule c =
+pub returns-else-obeys_rule : goal.returns-else-obeys_rule
+returns-else-obeys_rule c =
     let bs = c.args.bytes.now in
     let n = c.run-len.result in
-    word_bad bs n c.requires c.run-len.ensures (subst Free (part bs n) c.in-None.ensures) (subst (λ w. NameRule w → ⊥) (part bs n) c.if-obeys-rule.ensures)
+    word_bad bs n c.requires c.run-len.ensures (subst Free (part bs n) c.in-None.ensures) (subst (λ w. NameRule w → ⊥) (part bs n) c.if-obeys_rule.ensures)

@@ -28,4 +28,4 @@ none w ms n e l h m t s =
     h r.index (omega arith) (ap (λ us. spelling (get_or us r.index mark.Abs)) (sym same) ∙ ap spelling r.is ∙ s)
 
 pub returns : goal.returns
-returns c = none _ _ c.loop-mark.mark-index c.of-length-mark-items.ensures (omega arith) c.loop-mark.invariant
+returns c = none _ _ c.loop-mark.mark-index c.of_length-mark-items.ensures (omega arith) c.loop-mark.invariant

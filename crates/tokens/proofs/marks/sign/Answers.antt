@@ -30,10 +30,10 @@ module _ (bs : List ℕ) (ms : List Mark) (e : ms ≡ of_first (get_or bs 0 0)) 
       (λ le. subst (λ m. length (spelling m) ≤ length (spelling (get_or ms k mark.Abs))) a.is (falls k a.index le a.inside))
       (cases_lt a.index k)
 
-pub returns-then-starts-with : goal.returns-then-starts-with
-returns-then-starts-with c =
-    let e = c.of-first-mark-items.ensures ∙ ap of_first c.requires in
-    let f = (slice_eq-Decides Decides-eqb _ _ _ c.starts-with.ensures.value).0 c.if-starts-with.true in
+pub returns-then-starts_with : goal.returns-then-starts_with
+returns-then-starts_with c =
+    let e = c.of_first-mark-items.ensures ∙ ap of_first c.requires in
+    let f = (slice_eq-Decides Decides-eqb _ _ _ c.starts_with.ensures.value).0 c.if-starts_with.true in
     record {
       front = sym (subst (λ w. w ≡ take (length w) c.args.text.now) c.spelling.ensures f);
       longest = longest c.args.text.now _ e c.loop-mark.mark-index c.loop-mark.invariant;
@@ -42,7 +42,7 @@ returns-then-starts-with c =
 pub loop-mark-preserved : goal.loop-mark-preserved
 loop-mark-preserved c =
     below_more _ _ c.loop-mark.invariant
-    (λ f. both_ways _ c.if-starts-with.false ((slice_eq-Decides Decides-eqb _ _ _ c.starts-with.ensures.value).1 (subst (λ w. w ≡ take (length w) c.args.text.now) (sym c.spelling.ensures) (sym f))))
+    (λ f. both_ways _ c.if-starts_with.false ((slice_eq-Decides Decides-eqb _ _ _ c.starts_with.ensures.value).1 (subst (λ w. w ≡ take (length w) c.args.text.now) (sym c.spelling.ensures) (sym f))))
 
 pub returns : goal.returns
-returns c = none c.args.text.now _ (c.of-first-mark-items.ensures ∙ ap of_first c.requires) c.loop-mark.mark-index c.loop-mark-test.false c.loop-mark.invariant
+returns c = none c.args.text.now _ (c.of_first-mark-items.ensures ∙ ap of_first c.requires) c.loop-mark.mark-index c.loop-mark-test.false c.loop-mark.invariant

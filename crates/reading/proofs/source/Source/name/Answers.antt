@@ -4,4 +4,4 @@ use Rattle.reading.proofs.Looking.{shown}
 use Rattle.reading.proofs.source.Source.name.Goals as goal
 
 pub returns-in-Some : goal.returns-in-Some
-returns-in-Some c = shown c.args.self.now c.args.at c.in-Some.token is_name IsName c.name-span.result c.in-Some.ensures c.name-span.ensures
+returns-in-Some c = shown c.args.self.now c.args.at c.in-Some.token is_name IsName c.name_span.result c.in-Some.ensures c.name_span.ensures
