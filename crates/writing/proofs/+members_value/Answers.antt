@@ -17,8 +17,8 @@ members-returns-then-count-eq0 t c vs xs m e =
     let z = none_left vs (sym m ∙ c.if-count-eq0.true) in
     (e ∙ ap (λ ws. ontos ws xs) z, adds_same _ _ [] (members vs) (adds_none c.args.line.now) (ap members (sym z)))
 
-pub members_value-rest-requires : goal.members_value-rest-requires
-members_value-rest-requires t c =
+pub members-value-rest-requires : goal.members-value-rest-requires
+members-value-rest-requires t c =
     (omega (arith, c.decreases), begins _ _ _ (first c.args.count c.args.cells.now c.args.line.now.len c.requires c.if-count-eq0.false))
 
 pub members-loop-init : goal.members-loop-init
@@ -32,8 +32,8 @@ members-push-requires t c =
     let x = next c.args.count c.loop.counter c.args.cells.now c.value-rest.result.now c.loop.rest.now c.args.line.now c.value-rest.new.line c.loop.line f c.value-rest.ensures c.loop.invariant c.loop-test.true in
     omega (arith, x.room)
 
-pub members_value-rest-requires-in-loop : goal.members_value-rest-requires-in-loop
-members_value-rest-requires-in-loop t c =
+pub members-value-rest-requires-in-loop : goal.members-value-rest-requires-in-loop
+members-value-rest-requires-in-loop t c =
     let f = first c.args.count c.args.cells.now c.args.line.now.len c.requires c.if-count-eq0.false in
     let x = next c.args.count c.loop.counter c.args.cells.now c.value-rest.result.now c.loop.rest.now c.args.line.now c.value-rest.new.line c.loop.line f c.value-rest.ensures c.loop.invariant c.loop-test.true in
     (omega (arith, c.decreases, c.loop.invariant.shorter), record { first = x.one; rest = x.rest_after; cells_are = x.cells_are; room = omega (arith, x.room, c.push.ensures.longer) })
@@ -55,8 +55,8 @@ members-returns t c =
 plain : (s : List ℤ) (h : Head) → SFits w32 (get_or s 0 (pos 0)) → SFits w32 (get_or s 1 (pos 0)) → h ≡ head (to_z w32 (of_z w32 (get_or s 0 (pos 0)))) (to_z w32 (of_z w32 (get_or s 1 (pos 0)))) → h ≡ head_of s
 plain s h f g e = e ∙ (λ i. head (to_z-of_z w32 (get_or s 0 (pos 0)) f i) (to_z-of_z w32 (get_or s 1 (pos 0)) g i))
 
-pub value-returns-in-default : goal.value-returns-in-default
-value-returns-in-default t c v xs e =
+pub value-returns-in_default : goal.value-returns-in_default
+value-returns-in_default t c v xs e =
     let short : length c.args.cells.now < 2 = search rules in
     absurd (omega (arith, ap length e, length-onto v xs))
 

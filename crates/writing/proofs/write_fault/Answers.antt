@@ -7,14 +7,14 @@ use Rattle.writing.proofs.Lines.{full, adds_same, adds_then, writes_same}
 use Rattle.writing.proofs.write_fault.Goals as goal
 
 pub number-requires-2 : goal.number-requires-2
-number-requires-2 c = omega (arith, twenty_at_most c.from.result c.from.type-inv, c.new-line.ensures.len, c.push.ensures.longer)
+number-requires-2 c = omega (arith, twenty_at_most c.from.result c.from.type_inv, c.new-line.ensures.len, c.push.ensures.longer)
 
 pub at-requires : goal.at-requires
-at-requires c = omega (arith, twenty_at_most c.from.result c.from.type-inv, c.new-line.ensures.len, c.push.ensures.longer, c.number-2.ensures.longer)
+at-requires c = omega (arith, twenty_at_most c.from.result c.from.type_inv, c.new-line.ensures.len, c.push.ensures.longer, c.number-2.ensures.longer)
 
 pub copy_to-requires : goal.copy_to-requires
 copy_to-requires c =
-    omega (arith, twenty_at_most c.from.result c.from.type-inv, c.new-line.ensures.len, c.push.ensures.longer, c.number-2.ensures.longer, c.at.ensures.few)
+    omega (arith, twenty_at_most c.from.result c.from.type_inv, c.new-line.ensures.len, c.push.ensures.longer, c.number-2.ensures.longer, c.at.ensures.few)
 
 pub returns : goal.returns
 returns c =

@@ -118,21 +118,21 @@ expression-returns-in-Selection t c =
     (noting c.args.src.now c.args.scope.now c.args.found.now c.node-in-Selection.new.self (see_node (node c.in-Selection.place c.args.level)) (c.node-in-Selection.ensures (text_of c.args.src.now)))
     (then c.args.src.now (noting c.args.src.now c.args.scope.now c.node-in-Selection.new.self c.part.new.self (see_number (part_number c.in-Selection.place (valued (text_of c.args.src.now) c.in-Selection.part))) c.part.ensures) c.expression-in-Selection.ensures))
 
-pub expression-returns-in-default : goal.expression-returns-in-default
-expression-returns-in-default t c =
+pub expression-returns-in_default : goal.expression-returns-in_default
+expression-returns-in_default t c =
     into_tree c.args.src.now c.args.fuel c.if-fuel-eq0.false c.args.at c.args.level c.entry.result (sym c.entry.ensures)
     (record {
       kept = kept c.args.scope.now;
-      found = sym (no_expression (text_of c.args.src.now) (reach c.args.src.now (c.args.fuel - 1)) c.entry.result c.args.level (sighted (text_of c.args.src.now) c.args.scope.now) (seen (text_of c.args.src.now) c.args.found.now) c.in-default.not-Numeral c.in-default.not-Truth c.in-default.not-Name c.in-default.not-Unary c.in-default.not-Binary c.in-default.not-Connective c.in-default.not-If c.in-default.not-Let c.in-default.not-LetBe c.in-default.not-Cases c.in-default.not-Quantifier c.in-default.not-Collection c.in-default.not-Range c.in-default.not-Comprehension c.in-default.not-Selection);
+      found = sym (no_expression (text_of c.args.src.now) (reach c.args.src.now (c.args.fuel - 1)) c.entry.result c.args.level (sighted (text_of c.args.src.now) c.args.scope.now) (seen (text_of c.args.src.now) c.args.found.now) c.in_default.not-Numeral c.in_default.not-Truth c.in_default.not-Name c.in_default.not-Unary c.in_default.not-Binary c.in_default.not-Connective c.in_default.not-If c.in_default.not-Let c.in_default.not-LetBe c.in_default.not-Cases c.in_default.not-Quantifier c.in_default.not-Collection c.in_default.not-Range c.in_default.not-Comprehension c.in_default.not-Selection);
     })
 
 pub items-returns-then-fuel-eq0 : goal.items-returns-then-fuel-eq0
 items-returns-then-fuel-eq0 t c =
     stay c.args.src.now c.args.fuel c.args.scope.now c.args.found.now c.if-fuel-eq0.true (λ w. w.items c.args.link c.args.level) refl
 
-pub items-returns-in-default : goal.items-returns-in-default
-items-returns-in-default t c =
-    into_items c.args.src.now c.args.fuel c.if-fuel-eq0.false c.args.link c.args.level None c.in-default.ensures (record { kept = kept c.args.scope.now; found = refl })
+pub items-returns-in_default : goal.items-returns-in_default
+items-returns-in_default t c =
+    into_items c.args.src.now c.args.fuel c.if-fuel-eq0.false c.args.link c.args.level None c.in_default.ensures (record { kept = kept c.args.scope.now; found = refl })
 
 pub items-returns : goal.items-returns
 items-returns t c =
@@ -143,9 +143,9 @@ pub arms-returns-then-fuel-eq0 : goal.arms-returns-then-fuel-eq0
 arms-returns-then-fuel-eq0 t c =
     stay c.args.src.now c.args.fuel c.args.scope.now c.args.found.now c.if-fuel-eq0.true (λ w. w.arms c.args.link c.args.level) refl
 
-pub arms-returns-in-default : goal.arms-returns-in-default
-arms-returns-in-default t c =
-    into_arms c.args.src.now c.args.fuel c.if-fuel-eq0.false c.args.link c.args.level None c.in-default.ensures (record { kept = kept c.args.scope.now; found = refl })
+pub arms-returns-in_default : goal.arms-returns-in_default
+arms-returns-in_default t c =
+    into_arms c.args.src.now c.args.fuel c.if-fuel-eq0.false c.args.link c.args.level None c.in_default.ensures (record { kept = kept c.args.scope.now; found = refl })
 
 pub arms-returns : goal.arms-returns
 arms-returns t c =
@@ -156,17 +156,17 @@ pub filter-returns-in-Some : goal.filter-returns-in-Some
 filter-returns-in-Some t c =
     subst (λ r. Walked c.args.src.now c.args.scope.now c.under.new.scope c.args.found.now c.under.new.found (visit_filter (text_of c.args.src.now) (reach c.args.src.now c.args.fuel) c.args.name r c.args.level)) (sym c.in-Some.is) c.under.ensures
 
-pub filter-returns-in-default : goal.filter-returns-in-default
-filter-returns-in-default t c =
-    subst (λ r. Walked c.args.src.now c.args.scope.now c.args.scope.now c.args.found.now c.args.found.now (visit_filter (text_of c.args.src.now) (reach c.args.src.now c.args.fuel) c.args.name r c.args.level)) (sym c.in-default.is) (record { kept = kept c.args.scope.now; found = refl })
+pub filter-returns-in_default : goal.filter-returns-in_default
+filter-returns-in_default t c =
+    subst (λ r. Walked c.args.src.now c.args.scope.now c.args.scope.now c.args.found.now c.args.found.now (visit_filter (text_of c.args.src.now) (reach c.args.src.now c.args.fuel) c.args.name r c.args.level)) (sym c.in_default.is) (record { kept = kept c.args.scope.now; found = refl })
 
 pub optional-returns-in-Some : goal.optional-returns-in-Some
 optional-returns-in-Some t c =
     subst (λ r. Walked c.args.src.now c.args.scope.now c.expression.new.scope c.args.found.now c.expression.new.found (visit_optional (text_of c.args.src.now) (reach c.args.src.now c.args.fuel) r c.args.level)) (sym c.in-Some.is) c.expression.ensures
 
-pub optional-returns-in-default : goal.optional-returns-in-default
-optional-returns-in-default t c =
-    subst (λ r. Walked c.args.src.now c.args.scope.now c.args.scope.now c.args.found.now c.args.found.now (visit_optional (text_of c.args.src.now) (reach c.args.src.now c.args.fuel) r c.args.level)) (sym c.in-default.is) (record { kept = kept c.args.scope.now; found = refl })
+pub optional-returns-in_default : goal.optional-returns-in_default
+optional-returns-in_default t c =
+    subst (λ r. Walked c.args.src.now c.args.scope.now c.args.scope.now c.args.found.now c.args.found.now (visit_optional (text_of c.args.src.now) (reach c.args.src.now c.args.fuel) r c.args.level)) (sym c.in_default.is) (record { kept = kept c.args.scope.now; found = refl })
 
 pub side-returns : goal.side-returns
 side-returns t c =

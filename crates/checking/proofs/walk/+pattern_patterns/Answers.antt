@@ -47,20 +47,20 @@ pattern-returns-in-PartsPattern t c =
     (matching c.args.src.now c.args.scope.now c.args.found.now c.node-in-PartsPattern.new.self (see_node (node c.in-PartsPattern.place c.args.level)) (c.node-in-PartsPattern.ensures (text_of c.args.src.now)))
     c.patterns.ensures)
 
-pub pattern-returns-in-default : goal.pattern-returns-in-default
-pattern-returns-in-default t c =
+pub pattern-returns-in_default : goal.pattern-returns-in_default
+pattern-returns-in_default t c =
     into_pattern c.args.src.now c.args.fuel c.if-fuel-eq0.false c.args.from c.args.at c.args.level c.entry.result (sym c.entry.ensures)
     (record {
       grew = grew c.args.scope.now;
-      found = sym (no_pattern (text_of c.args.src.now) (reach c.args.src.now (c.args.fuel - 1)) c.entry.result c.args.from c.args.level (trail c.args.src.now c.args.scope.now c.args.found.now) c.in-default.not-AnyPattern c.in-default.not-NamePattern c.in-default.not-NumeralPattern c.in-default.not-TruthPattern c.in-default.not-PartsPattern);
+      found = sym (no_pattern (text_of c.args.src.now) (reach c.args.src.now (c.args.fuel - 1)) c.entry.result c.args.from c.args.level (trail c.args.src.now c.args.scope.now c.args.found.now) c.in_default.not-AnyPattern c.in_default.not-NamePattern c.in_default.not-NumeralPattern c.in_default.not-TruthPattern c.in_default.not-PartsPattern);
     })
 
 pub patterns-returns-then-fuel-eq0 : goal.patterns-returns-then-fuel-eq0
 patterns-returns-then-fuel-eq0 t c = stay_matched c.args.src.now c.args.fuel c.args.scope.now c.args.found.now c.if-fuel-eq0.true (λ w. w.patterns c.args.from c.args.link c.args.level) refl
 
-pub patterns-returns-in-default : goal.patterns-returns-in-default
-patterns-returns-in-default t c =
-    into_patterns c.args.src.now c.args.fuel c.if-fuel-eq0.false c.args.from c.args.link c.args.level None c.in-default.ensures (record { grew = grew c.args.scope.now; found = refl })
+pub patterns-returns-in_default : goal.patterns-returns-in_default
+patterns-returns-in_default t c =
+    into_patterns c.args.src.now c.args.fuel c.if-fuel-eq0.false c.args.from c.args.link c.args.level None c.in_default.ensures (record { grew = grew c.args.scope.now; found = refl })
 
 pub patterns-returns : goal.patterns-returns
 patterns-returns t c =

@@ -13,8 +13,8 @@ returns-in-Ok c =
     let whole = sym (take-append-drop t'.len t'.slots.now) in
     let left : length (spare t) ≡ length c.args.slots.now - length (items t) = omega (arith, length-drop t.len t.slots.now, length-take t.len t.slots.now, f.1.1.1.1.0, c.make-table.ensures.room) in
     record {
-      short = c.if-text-gt-TEXT-MAX.false;
-      large = c.if-slots-lt-TEXT-MAX.false;
+      short = c.if-text-gt-TEXT_MAX.false;
+      large = c.if-slots-lt-TEXT_MAX.false;
       tree = f.0;
       sentence = f.1.0;
       only = f.1.1.0;

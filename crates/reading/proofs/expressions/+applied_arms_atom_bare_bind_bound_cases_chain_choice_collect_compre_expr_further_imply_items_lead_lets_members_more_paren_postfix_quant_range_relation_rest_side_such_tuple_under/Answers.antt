@@ -59,13 +59,13 @@ expr-returns t c =
     let w1 = passed w0 c.if-is.ensures in
     let w2 = passed w1 c.if-is-2.ensures in
     let w3 = passed w2 c.if-is-3.ensures in
-    let w4 = passed w3 c.in-default.ensures in
+    let w4 = passed w3 c.in_default.ensures in
     tail_call (λ v. v) c.chain.new.table 0 (λ x. x.next) (TreeAt c.args.src.now) c.chain.result w4 (lit≤ tt) c.chain.ensures
 
-pub lets-returns-in-default : goal.lets-returns-in-default
-lets-returns-in-default t c =
+pub lets-returns-in_default : goal.lets-returns-in_default
+lets-returns-in_default t c =
     let w0 = start (Job.parse Sort.expr c.args.inside) (let_tail c.args.inside c.args.place) c.args.src.now c.args.at false 1 c.args.table.now c.requires in
-    lost_want w0 (c.in-default.ensures, refl)
+    lost_want w0 (c.in_default.ensures, refl)
 
 pub lets-returns-then-is : goal.lets-returns-then-is
 lets-returns-then-is t c =
@@ -462,10 +462,10 @@ quant-returns t c =
     let w4 = putting {t'' = c.put-node.new.table} 1 _ w3 (lit≤ tt) c.put-node.ensures.items c.put-node.ensures.room in
     returned _ w4 (_, (_, _, (stands_new _ _ _ c.put-node.result c.put-node.ensures.items c.put-node.ensures.node, (b.held.0, ((tree_more s.text.now (then_more c.in_ok-body.ensures.kept (added _ _ _ c.put-node.ensures.items)) _ b.value.set b.held.1), (tree_more s.text.now (added _ _ _ c.put-node.ensures.items) _ c.in_ok-body.ensures.value c.in_ok-body.ensures.held))))))
 
-pub bind-returns-in-default : goal.bind-returns-in-default
-bind-returns-in-default t c =
+pub bind-returns-in_default : goal.bind-returns-in_default
+bind-returns-in_default t c =
     let w0 = start (Job.bind) (body Job.bind) c.args.src.now c.args.at false 0 c.args.table.now c.requires in
-    lost_want w0 (c.in-default.ensures, refl)
+    lost_want w0 (c.in_default.ensures, refl)
 
 pub bind-returns-in_err-at : goal.bind-returns-in_err-at
 bind-returns-in_err-at t c =
@@ -513,10 +513,10 @@ chain-returns t c =
     let w1 = called 0 w0 (lit≤ tt) c.in_ok-first.ensures in
     tail_call (λ v. v) c.more.new.table 0 (λ x. x.next) (TreeAt c.args.src.now) c.more.result w1 (lit≤ tt) (c.more.ensures g.value g.then g.held)
 
-pub more-returns-in-default : goal.more-returns-in-default
-more-returns-in-default t c a far held =
+pub more-returns-in_default : goal.more-returns-in_default
+more-returns-in_default t c a far held =
     let w0 = start (Job.more (left_of c.args.level) c.args.inside a) (body (Job.more (left_of c.args.level) c.args.inside a)) c.args.src.now c.args.left.next far 0 c.args.table.now c.requires in
-    let w1 = passed w0 c.in-default.ensures in
+    let w1 = passed w0 c.in_default.ensures in
     returned _ w1 held
 
 pub more-returns-in_err-right : goal.more-returns-in_err-right
@@ -583,10 +583,10 @@ imply-returns t c =
     let w4 = putting {t'' = c.put-node.new.table} 0 _ w3 (lit≤ tt) c.put-node.ensures.items c.put-node.ensures.room in
     returned _ w4 (_, _, (st, ((tree_more s.text.now (then_more c.in_ok-right.ensures.kept (added _ _ _ c.put-node.ensures.items)) _ c.in_ok-left.ensures.value c.in_ok-left.ensures.held), (tree_more s.text.now (added _ _ _ c.put-node.ensures.items) _ c.in_ok-right.ensures.value c.in_ok-right.ensures.held))))
 
-pub lead-returns-in-default : goal.lead-returns-in-default
-lead-returns-in-default t c =
+pub lead-returns-in_default : goal.lead-returns-in_default
+lead-returns-in_default t c =
     let w0 = start (Job.parse (Sort.lead (lead_of c.args.level)) c.args.inside) (body (Job.parse (Sort.lead (lead_of c.args.level)) c.args.inside)) c.args.src.now c.args.at false 0 c.args.table.now c.requires in
-    let w1 = passed w0 c.in-default.ensures in
+    let w1 = passed w0 c.in_default.ensures in
     tail_call (λ v. v) c.bare.new.table 0 (λ x. x.next) (TreeAt c.args.src.now) c.bare.result w1 (lit≤ tt) c.bare.ensures
 
 pub lead-returns-in_err-operand : goal.lead-returns-in_err-operand
@@ -632,7 +632,7 @@ relation-returns-in_err-at t c =
     let e = err_from_is_err_and c.from_residual-in_err-at.result c.from_residual-in_err-at.ensures.1 in
     let w0 = start (Job.parse Sort.relation c.args.inside) (body (Job.parse Sort.relation c.args.inside)) c.args.src.now c.args.at false 0 c.args.table.now c.requires in
     let w1 = called 0 w0 (lit≤ tt) c.in_ok-left.ensures in
-    let w2 = passed w1 c.in-default.ensures in
+    let w2 = passed w1 c.in_default.ensures in
     let w3 = taken w2 c.if-is.ensures in
     rw (e.1, e.2) (lost_want w3 c.in_err-at.ensures)
 
@@ -641,7 +641,7 @@ relation-returns-in_err-at-2 t c =
     let e = err_from_is_err_and c.from_residual-in_err-at-2.result c.from_residual-in_err-at-2.ensures.1 in
     let w0 = start (Job.parse Sort.relation c.args.inside) (body (Job.parse Sort.relation c.args.inside)) c.args.src.now c.args.at false 0 c.args.table.now c.requires in
     let w1 = called 0 w0 (lit≤ tt) c.in_ok-left.ensures in
-    let w2 = passed w1 c.in-default.ensures in
+    let w2 = passed w1 c.in_default.ensures in
     let w3 = taken w2 c.if-is.ensures in
     let w4 = wanted w3 c.in_ok-at.ensures in
     rw (e.1, e.2) (lost_want w4 c.in_err-at-2.ensures)
@@ -650,18 +650,18 @@ pub relation-returns-then-is : goal.relation-returns-then-is
 relation-returns-then-is t c =
     let w0 = start (Job.parse Sort.relation c.args.inside) (body (Job.parse Sort.relation c.args.inside)) c.args.src.now c.args.at false 0 c.args.table.now c.requires in
     let w1 = called 0 w0 (lit≤ tt) c.in_ok-left.ensures in
-    let w2 = passed w1 c.in-default.ensures in
+    let w2 = passed w1 c.in_default.ensures in
     let w3 = taken w2 c.if-is.ensures in
     let w4 = wanted w3 c.in_ok-at.ensures in
     let w5 = wanted w4 c.in_ok-at-2.ensures in
     let w6 = becoming (ap (λ p. right_side p bin.NotInSet c.in_ok-left.ensures.value) (sym (c.place-place.ensures ∙ place_here c.args.src.now c.in_ok-left.left.next _ c.if-is.ensures))) w5 in
-    tail c.side-then-is.last.table 1 (λ x. x.next) (TreeAt c.args.src.now) c.side-then-is.result w6 (lit≤ tt) (c.side-then-is.ensures c.args.inside c.in_ok-left.ensures.value c.in_ok-left.ensures.held)
+    tail c.side-then-is.new.table 1 (λ x. x.next) (TreeAt c.args.src.now) c.side-then-is.result w6 (lit≤ tt) (c.side-then-is.ensures c.args.inside c.in_ok-left.ensures.value c.in_ok-left.ensures.held)
 
 pub relation-returns-then-not-is : goal.relation-returns-then-not-is
 relation-returns-then-not-is t c =
     let w0 = start (Job.parse Sort.relation c.args.inside) (body (Job.parse Sort.relation c.args.inside)) c.args.src.now c.args.at false 0 c.args.table.now c.requires in
     let w1 = called 0 w0 (lit≤ tt) c.in_ok-left.ensures in
-    let w2 = passed w1 c.in-default.ensures in
+    let w2 = passed w1 c.in_default.ensures in
     let w3 = passed w2 c.if-is.ensures in
     let w4 = becoming (ap (λ b. member b c.in_ok-left.ensures.value) c.if-inside.true) w3 in
     let w5 = neither w4 c.if-not-is.ensures in
@@ -671,7 +671,7 @@ pub relation-returns-then-not-is-2 : goal.relation-returns-then-not-is-2
 relation-returns-then-not-is-2 t c =
     let w0 = start (Job.parse Sort.relation c.args.inside) (body (Job.parse Sort.relation c.args.inside)) c.args.src.now c.args.at false 0 c.args.table.now c.requires in
     let w1 = called 0 w0 (lit≤ tt) c.in_ok-left.ensures in
-    let w2 = passed w1 c.in-default.ensures in
+    let w2 = passed w1 c.in_default.ensures in
     let w3 = passed w2 c.if-is.ensures in
     let w4 = becoming (ap (λ b. member b c.in_ok-left.ensures.value) c.if-inside.true) w3 in
     let w5 = only w4 c.if-not-is.ensures c.if-not-is-2.ensures in
@@ -682,7 +682,7 @@ relation-returns-then-inside t c =
     let e : c.in_ok-left.left.next + 1 + 1 ≡ c.in_ok-left.left.next + 2 = omega arith in
     let w0 = start (Job.parse Sort.relation c.args.inside) (body (Job.parse Sort.relation c.args.inside)) c.args.src.now c.args.at false 0 c.args.table.now c.requires in
     let w1 = called 0 w0 (lit≤ tt) c.in_ok-left.ensures in
-    let w2 = passed w1 c.in-default.ensures in
+    let w2 = passed w1 c.in_default.ensures in
     let w3 = passed w2 c.if-is.ensures in
     let w4 = becoming (ap (λ b. member b c.in_ok-left.ensures.value) c.if-inside.true) w3 in
     let w5 = both w4 c.if-not-is.ensures c.if-not-is-2.ensures in
@@ -694,7 +694,7 @@ pub relation-returns-then-not-is-3 : goal.relation-returns-then-not-is-3
 relation-returns-then-not-is-3 t c =
     let w0 = start (Job.parse Sort.relation c.args.inside) (body (Job.parse Sort.relation c.args.inside)) c.args.src.now c.args.at false 0 c.args.table.now c.requires in
     let w1 = called 0 w0 (lit≤ tt) c.in_ok-left.ensures in
-    let w2 = passed w1 c.in-default.ensures in
+    let w2 = passed w1 c.in_default.ensures in
     let w3 = passed w2 c.if-is.ensures in
     let w4 = becoming (ap (λ b. member b c.in_ok-left.ensures.value) c.if-inside.false) w3 in
     let w5 = passed w4 c.if-not-is-3.ensures in
@@ -705,7 +705,7 @@ relation-returns-in_err-at-3 t c =
     let e = err_from_is_err_and c.from_residual-in_err-at-3.result c.from_residual-in_err-at-3.ensures.1 in
     let w0 = start (Job.parse Sort.relation c.args.inside) (body (Job.parse Sort.relation c.args.inside)) c.args.src.now c.args.at false 0 c.args.table.now c.requires in
     let w1 = called 0 w0 (lit≤ tt) c.in_ok-left.ensures in
-    let w2 = passed w1 c.in-default.ensures in
+    let w2 = passed w1 c.in_default.ensures in
     let w3 = passed w2 c.if-is.ensures in
     let w4 = becoming (ap (λ b. member b c.in_ok-left.ensures.value) c.if-inside.false) w3 in
     let w5 = taken w4 c.if-not-is-3.ensures in
@@ -715,7 +715,7 @@ pub relation-returns : goal.relation-returns
 relation-returns t c =
     let w0 = start (Job.parse Sort.relation c.args.inside) (body (Job.parse Sort.relation c.args.inside)) c.args.src.now c.args.at false 0 c.args.table.now c.requires in
     let w1 = called 0 w0 (lit≤ tt) c.in_ok-left.ensures in
-    let w2 = passed w1 c.in-default.ensures in
+    let w2 = passed w1 c.in_default.ensures in
     let w3 = passed w2 c.if-is.ensures in
     let w4 = becoming (ap (λ b. member b c.in_ok-left.ensures.value) c.if-inside.false) w3 in
     let w5 = taken w4 c.if-not-is-3.ensures in
@@ -798,12 +798,12 @@ applied-returns-then-not-is t c a far held =
     let w2 = passed w1 c.if-not-is.ensures in
     returned _ w2 held
 
-pub applied-returns-in-default : goal.applied-returns-in-default
-applied-returns-in-default t c a far held =
+pub applied-returns-in_default : goal.applied-returns-in_default
+applied-returns-in_default t c a far held =
     let w0 = start (Job.applied a) (body (Job.applied a)) c.args.src.now c.args.left.next far 0 c.args.table.now c.requires in
     let w1 = passed w0 c.if-is.ensures in
     let w2 = taken w1 c.if-not-is.ensures in
-    lost_want w2 (c.in-default.ensures, refl)
+    lost_want w2 (c.in_default.ensures, refl)
 
 pub applied-applied-requires-2 : goal.applied-applied-requires-2
 applied-applied-requires-2 t c =
@@ -849,7 +849,7 @@ atom-returns-in-Some-name t c =
     let s = c.args.src.now in
     let f = c.in-Some-name.ensures in
     let w0 = start (Job.parse Sort.atom false) (body (Job.parse Sort.atom false)) c.args.src.now c.args.at false 0 c.args.table.now c.requires in
-    let w1 = passed w0 c.in-default.ensures in
+    let w1 = passed w0 c.in_default.ensures in
     let w2 = taken w1 f.sees in
     let w3 = putting {t'' = c.put-in-Some-name.new.table} 0 _ w2 (lit≤ tt) c.put-in-Some-name.ensures.items c.put-in-Some-name.ensures.room in
     returned _ w3 (c.in-Some-name.name, (stands_new _ _ _ c.put-in-Some-name.result c.put-in-Some-name.ensures.items c.put-in-Some-name.ensures.node, f.tells))
@@ -859,8 +859,8 @@ atom-returns-in-Some-truth t c =
     let s = c.args.src.now in
     let f = c.in-Some-truth.ensures in
     let w0 = start (Job.parse Sort.atom false) (body (Job.parse Sort.atom false)) c.args.src.now c.args.at false 0 c.args.table.now c.requires in
-    let w1 = passed w0 c.in-default.ensures in
-    let w2 = passed w1 c.in-default-name.ensures in
+    let w1 = passed w0 c.in_default.ensures in
+    let w2 = passed w1 c.in_default-name.ensures in
     let w3 = taken w2 f.sees in
     let w4 = putting {t'' = c.put-in-Some-truth.new.table} 0 _ w3 (lit≤ tt) c.put-in-Some-truth.ensures.items c.put-in-Some-truth.ensures.room in
     returned _ w4 (subst (λ b. Stands (items c.put-in-Some-truth.new.table) c.put-in-Some-truth.result (entry.Truth f.sees.token.place b)) f.tells (subst (λ p. Stands (items c.put-in-Some-truth.new.table) c.put-in-Some-truth.result (entry.Truth p c.in-Some-truth.value)) (c.place-place.ensures ∙ place_here c.args.src.now c.args.at _ f.sees) (stands_new _ _ _ c.put-in-Some-truth.result c.put-in-Some-truth.ensures.items c.put-in-Some-truth.ensures.node)))
@@ -868,18 +868,18 @@ atom-returns-in-Some-truth t c =
 pub atom-returns-then-is : goal.atom-returns-then-is
 atom-returns-then-is t c =
     let w0 = start (Job.parse Sort.atom false) (body (Job.parse Sort.atom false)) c.args.src.now c.args.at false 0 c.args.table.now c.requires in
-    let w1 = passed w0 c.in-default.ensures in
-    let w2 = passed w1 c.in-default-name.ensures in
-    let w3 = passed w2 c.in-default-truth.ensures in
+    let w1 = passed w0 c.in_default.ensures in
+    let w2 = passed w1 c.in_default-name.ensures in
+    let w3 = passed w2 c.in_default-truth.ensures in
     let w4 = taken w3 c.if-is.ensures in
     tail c.paren.new.table 0 (λ x. x.next) (TreeAt c.args.src.now) c.paren.result w4 (lit≤ tt) c.paren.ensures
 
 pub atom-returns-then-is-2 : goal.atom-returns-then-is-2
 atom-returns-then-is-2 t c =
     let w0 = start (Job.parse Sort.atom false) (body (Job.parse Sort.atom false)) c.args.src.now c.args.at false 0 c.args.table.now c.requires in
-    let w1 = passed w0 c.in-default.ensures in
-    let w2 = passed w1 c.in-default-name.ensures in
-    let w3 = passed w2 c.in-default-truth.ensures in
+    let w1 = passed w0 c.in_default.ensures in
+    let w2 = passed w1 c.in_default-name.ensures in
+    let w3 = passed w2 c.in_default-truth.ensures in
     let w4 = passed w3 c.if-is.ensures in
     let w5 = taken w4 c.if-is-2.ensures in
     let w6 = becoming (ap (collected grammar.Bracket.brace) (sym (c.place-place.ensures ∙ place_here c.args.src.now c.args.at _ c.if-is-2.ensures))) w5 in
@@ -888,9 +888,9 @@ atom-returns-then-is-2 t c =
 pub atom-returns-then-is-3 : goal.atom-returns-then-is-3
 atom-returns-then-is-3 t c =
     let w0 = start (Job.parse Sort.atom false) (body (Job.parse Sort.atom false)) c.args.src.now c.args.at false 0 c.args.table.now c.requires in
-    let w1 = passed w0 c.in-default.ensures in
-    let w2 = passed w1 c.in-default-name.ensures in
-    let w3 = passed w2 c.in-default-truth.ensures in
+    let w1 = passed w0 c.in_default.ensures in
+    let w2 = passed w1 c.in_default-name.ensures in
+    let w3 = passed w2 c.in_default-truth.ensures in
     let w4 = passed w3 c.if-is.ensures in
     let w5 = passed w4 c.if-is-2.ensures in
     let w6 = taken w5 c.if-is-3.ensures in
@@ -901,9 +901,9 @@ pub atom-returns-in_err-at : goal.atom-returns-in_err-at
 atom-returns-in_err-at t c =
     let e = err_from_is_err_and c.from_residual.result c.from_residual.ensures.1 in
     let w0 = start (Job.parse Sort.atom false) (body (Job.parse Sort.atom false)) c.args.src.now c.args.at false 0 c.args.table.now c.requires in
-    let w1 = passed w0 c.in-default.ensures in
-    let w2 = passed w1 c.in-default-name.ensures in
-    let w3 = passed w2 c.in-default-truth.ensures in
+    let w1 = passed w0 c.in_default.ensures in
+    let w2 = passed w1 c.in_default-name.ensures in
+    let w3 = passed w2 c.in_default-truth.ensures in
     let w4 = passed w3 c.if-is.ensures in
     let w5 = passed w4 c.if-is-2.ensures in
     let w6 = passed w5 c.if-is-3.ensures in
@@ -912,9 +912,9 @@ atom-returns-in_err-at t c =
 pub atom-returns : goal.atom-returns
 atom-returns t c =
     let w0 = start (Job.parse Sort.atom false) (body (Job.parse Sort.atom false)) c.args.src.now c.args.at false 0 c.args.table.now c.requires in
-    let w1 = passed w0 c.in-default.ensures in
-    let w2 = passed w1 c.in-default-name.ensures in
-    let w3 = passed w2 c.in-default-truth.ensures in
+    let w1 = passed w0 c.in_default.ensures in
+    let w2 = passed w1 c.in_default-name.ensures in
+    let w3 = passed w2 c.in_default-truth.ensures in
     let w4 = passed w3 c.if-is.ensures in
     let w5 = passed w4 c.if-is-2.ensures in
     let w6 = passed w5 c.if-is-3.ensures in
@@ -1027,8 +1027,8 @@ collect-returns-then-not-is t c =
     let w4 = passed w3 c.if-not-is.ensures in
     let w5 = wanted w4 ((subst (λ m. Sees c.args.src.now c.in_ok-first.first.next (is m)) c.closing-then-not-is.ensures c.in_ok-next.ensures.0), c.in_ok-next.ensures.1) in
     let w6 = putting {t'' = c.put-item.new.table} 1 _ w5 (lit≤ tt) c.put-item.ensures.items c.put-item.ensures.room in
-    let w7 = putting {t'' = c.put-node-then-not-is.last.table} 0 _ w6 (lit≤ tt) c.put-node-then-not-is.ensures.items c.put-node-then-not-is.ensures.room in
-    returned _ w7 (Some c.put-item.result, ((subst (λ k. Stands (items c.put-node-then-not-is.last.table) c.put-node-then-not-is.result (entry.Collection c.args.place k (Some c.put-item.result))) c.collected-then-not-is.ensures (stands_new _ _ _ c.put-node-then-not-is.result c.put-node-then-not-is.ensures.items c.put-node-then-not-is.ensures.node)), (_, _, (None, (refl, (stands_more (added _ _ _ c.put-node-then-not-is.ensures.items) (stands_new _ _ _ c.put-item.result c.put-item.ensures.items c.put-item.ensures.node), ((tree_more s.text.now (then_more (added _ _ _ c.put-item.ensures.items) (added _ _ _ c.put-node-then-not-is.ensures.items)) _ c.in_ok-first.ensures.value c.in_ok-first.ensures.held), refl)))))))
+    let w7 = putting {t'' = c.put-node-then-not-is.new.table} 0 _ w6 (lit≤ tt) c.put-node-then-not-is.ensures.items c.put-node-then-not-is.ensures.room in
+    returned _ w7 (Some c.put-item.result, ((subst (λ k. Stands (items c.put-node-then-not-is.new.table) c.put-node-then-not-is.result (entry.Collection c.args.place k (Some c.put-item.result))) c.collected-then-not-is.ensures (stands_new _ _ _ c.put-node-then-not-is.result c.put-node-then-not-is.ensures.items c.put-node-then-not-is.ensures.node)), (_, _, (None, (refl, (stands_more (added _ _ _ c.put-node-then-not-is.ensures.items) (stands_new _ _ _ c.put-item.result c.put-item.ensures.items c.put-item.ensures.node), ((tree_more s.text.now (then_more (added _ _ _ c.put-item.ensures.items) (added _ _ _ c.put-node-then-not-is.ensures.items)) _ c.in_ok-first.ensures.value c.in_ok-first.ensures.held), refl)))))))
 
 pub collect-returns : goal.collect-returns
 collect-returns t c =
@@ -1187,13 +1187,13 @@ items-returns-in_err-item t c =
     let w0 = start (Job.items (limit_of c.args.limit)) (body (Job.items (limit_of c.args.limit))) c.args.src.now c.args.at false 1 c.args.table.now c.requires in
     rw (e.1, e.2) (lost_call w0 c.in_err-item.ensures)
 
-pub items-returns-in_err-want : goal.items-returns-in_err-want
-items-returns-in_err-want t c =
-    let e = err_from_is_err_and c.from_residual-in_err-want.result c.from_residual-in_err-want.ensures.1 in
+pub items-returns-in_err-want-in-Must : goal.items-returns-in_err-want-in-Must
+items-returns-in_err-want-in-Must t c =
+    let e = err_from_is_err_and c.from_residual-in_err-want-in-Must.result c.from_residual-in_err-want-in-Must.ensures.1 in
     let w0 = start (Job.items (limit_of c.args.limit)) (body (Job.items (limit_of c.args.limit))) c.args.src.now c.args.at false 1 c.args.table.now c.requires in
     let w1 = called 1 w0 (lit≤ tt) c.in_ok-item.ensures in
     let w2 = becoming (ap (λ l. after_item l c.in_ok-item.ensures.value) (sym c.in-Must.ensures)) w1 in
-    rw (e.1, e.2) (lost_want w2 c.in_err-want.ensures)
+    rw (e.1, e.2) (lost_want w2 c.in_err-want-in-Must.ensures)
 
 pub items-returns-then-is : goal.items-returns-then-is
 items-returns-then-is t c =
@@ -1213,12 +1213,12 @@ items-returns-else-is t c =
     let w4 = putting {t'' = c.last.new.table} 0 _ w3 (lit≤ tt) c.last.ensures.items c.last.ensures.room in
     returned_at (TreesAt s (items c.last.new.table) c.last.result) c.last.ensures.next w4 (_, _, (None, (c.last.ensures.first, (stands_new _ _ _ _ c.last.ensures.items refl, ((tree_more s.text.now (added _ _ _ c.last.ensures.items) _ c.in_ok-item.ensures.value c.in_ok-item.ensures.held), refl)))))
 
-pub items-returns-in_ok-want : goal.items-returns-in_ok-want
-items-returns-in_ok-want t c =
+pub items-returns-in_ok-want-in-Must : goal.items-returns-in_ok-want-in-Must
+items-returns-in_ok-want-in-Must t c =
     let w0 = start (Job.items (limit_of c.args.limit)) (body (Job.items (limit_of c.args.limit))) c.args.src.now c.args.at false 1 c.args.table.now c.requires in
     let w1 = called 1 w0 (lit≤ tt) c.in_ok-item.ensures in
     let w2 = becoming (ap (λ l. after_item l c.in_ok-item.ensures.value) (sym c.in-Must.ensures)) w1 in
-    let w3 = wanted w2 (c.in_ok-want.ensures.0, refl) in
+    let w3 = wanted w2 (c.in_ok-want-in-Must.ensures.0, refl) in
     tail c.further-in-Must.new.table 2 (λ x. x.next) (TreesAt c.args.src.now) c.further-in-Must.result w3 (lit≤ tt) (c.further-in-Must.ensures (limit_of c.args.limit) c.in_ok-item.ensures.value c.in_ok-item.ensures.held)
 
 pub items-returns-in-Last : goal.items-returns-in-Last
