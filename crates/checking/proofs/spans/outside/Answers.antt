@@ -22,7 +22,7 @@ pub loop-d-preserved : goal.loop-d-preserved
 loop-d-preserved c =
     let ds = c.args.digits.now in
     let step = at_drop_more (decimal c.loop-d.value) ds c.loop-d.d-index 0 c.loop-d-test.true in
-    ap (λ k. decimal (10 * c.loop-d.value + k) (drop (c.loop-d.d-index + 1) ds)) (c.from.ensures ∙ c.saturating-sub.ensures) ∙ sym step ∙ c.loop-d.invariant
+    ap (λ k. decimal (10 * c.loop-d.value + k) (drop (c.loop-d.d-index + 1) ds)) (c.from.ensures ∙ c.saturating_sub.ensures) ∙ sym step ∙ c.loop-d.invariant
 
 pub returns-then-value-least : goal.returns-then-value-least
 returns-then-value-least c =

@@ -5,8 +5,8 @@ use Rattle.checking.specs.Found.{listed}
 use Rattle.checking.proofs.Lists.{take_short}
 use Rattle.checking.proofs.findings.Names.add.Goals as goal
 
-pub returns-then-n-lt-NAMES-MAX : goal.returns-then-n-lt-NAMES-MAX
-returns-then-n-lt-NAMES-MAX c =
+pub returns-then-n-lt-NAMES_MAX : goal.returns-then-n-lt-NAMES_MAX
+returns-then-n-lt-NAMES_MAX c =
     let us = c.args.self.now.spans in
     let n = length c.list-n.result.now in
     let within : n < length us = search rules in

@@ -5,8 +5,8 @@ use Rattle.checking.specs.Scopes.{sight}
 use Rattle.checking.proofs.Lists.{take_short}
 use Rattle.checking.proofs.scope.Scope.bind.Goals as goal
 
-pub returns-then-n-lt-SIGHT-MAX : goal.returns-then-n-lt-SIGHT-MAX
-returns-then-n-lt-SIGHT-MAX c =
+pub returns-then-n-lt-SIGHT_MAX : goal.returns-then-n-lt-SIGHT_MAX
+returns-then-n-lt-SIGHT_MAX c =
     let s = c.args.self.now in
     let us = s.names in
     let n = c.count-n.result in
