@@ -1,5 +1,5 @@
 -- Going through a draft, step by step.
-use Rattle.std.proofs.Common.{◌≡◌, ℕ, zero, suc, ◌-◌, ◌≤◌, Bool, true, false, cond, ltb, List, [], ◌∷◌, ◌++◌, map, length, get_or, take, Some, None, Option, sym, refl, ap, ◌∙◌, subst, arith}
+use Rattle.std.proofs.Common.{◌≡◌, ℕ, zero, suc, ◌-◌, ◌≤◌, Bool, true, false, cond, ltb, List, [], ◌∷◌, ◌++◌, map, length, get_or, take, Option, sym, refl, ap, ◌∙◌, subst, arith}
 use Rattle.std.proofs.lemmas.List.{take-take, length-map, map-append}
 use Rattle.syntax.specs.Tree.{Name}
 use Rattle.reading.specs.declared.entry.Span.{Span}
@@ -12,7 +12,7 @@ use Rattle.checking.specs.declared.walk.Source.{Source}
 use Rattle.checking.specs.Walk.{Seen, Trail, bind, Walks, Item, Arm, nowhere, seeing, further, walks, linked, entry_item, entry_arm, visit, visit_items, visit_arms, visit_pattern, visit_patterns}
 use Rattle.checking.specs.Scopes.{sight, sighted, Kept, Grew}
 use Rattle.checking.specs.Found.{seen}
-use Rattle.checking.specs.Walked.{text_of, reach, Walked, trail, Matched}
+use Rattle.checking.specs.Walked.{text_of, reach, Walked, Matched}
 
 -- ---- fuel
 

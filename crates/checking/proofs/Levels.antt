@@ -1,5 +1,5 @@
 -- Where nothing stands on level 17, nothing is deeper than level 16.
-use Rattle.std.proofs.Common.{◌≡◌, ℕ, ◌+◌, ◌≤◌, ◌⊎◌, List, [], ◌∷◌, ◌++◌, refl, ap, inl, inr, ⊎_elim, arith}
+use Rattle.std.proofs.Common.{◌≡◌, ℕ, ◌+◌, ◌≤◌, List, [], ◌∷◌, ◌++◌, ap, inl, inr, ⊎_elim, arith}
 use Rattle.syntax.specs.Tree.{Place, Pattern, Patterns, Tree, Trees, Alternatives, Optional}
 use Rattle.syntax.specs.Names.{In}
 use Rattle.syntax.proofs.Names.{in_left, in_right, in_either}

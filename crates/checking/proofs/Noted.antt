@@ -1,5 +1,5 @@
 -- A name as an expression: what is noted of it.
-use Rattle.std.proofs.Common.{◌≡◌, ℕ, Bool, true, false, cond, ltb, List, [], ◌∷◌, ◌++◌, map, length, drop, is_some, Some, None, Option, sym, refl, ap, ◌∙◌, true≢false}
+use Rattle.std.proofs.Common.{◌≡◌, ℕ, Bool, true, false, cond, ltb, List, [], ◌∷◌, ◌++◌, map, length, is_some, Some, None, Option, sym, refl, ap, ◌∙◌, true≢false}
 use Rattle.std.proofs.lemmas.List.{length-map, map-append}
 use Rattle.syntax.specs.Tree.{Name}
 use Rattle.syntax.specs.Names.{Occurrence, among}

@@ -1,7 +1,7 @@
 -- What a tree shows, noted part by part.
-use Rattle.std.proofs.Common.{◌≡◌, ℕ, ◌+◌, Bool, List, [], ◌∷◌, ◌++◌, Option, sym, refl, ap, ◌∙◌}
+use Rattle.std.proofs.Common.{◌≡◌, ℕ, Bool, List, [], ◌∷◌, ◌++◌, Option, sym, refl, ◌∙◌}
 use Rattle.syntax.specs.Tree.{Place, Name, Pattern, Patterns, Tree, Trees, Alternatives, Optional}
-use Rattle.syntax.specs.Names.{Occurrence, names, free, free_all, free_in, free_of}
+use Rattle.syntax.specs.Names.{Occurrence, free, free_all, free_in, free_of}
 use Rattle.checking.specs.Sightings.{Node, Number, Bound, node, nodes, nodes_all, nodes_in, nodes_of, numbers, numbers_all, numbers_in, numbers_of, bounds, bounds_all, bounds_in, bounds_of, pattern_nodes, patterns_nodes, pattern_numbers, patterns_numbers, pattern_bounds, patterns_bounds}
 use Rattle.checking.specs.Walk.{Tally, Seen, lower_if, too_deep, out_of_bounds, stands_earlier, count}
 

@@ -1,15 +1,15 @@
 -- On the entries of a tree, the walk notes what the tree shows.
-use Rattle.std.proofs.Common.{◌≡◌, ℕ, zero, suc, ◌+◌, ◌-◌, ◌*◌, ◌<◌, ◌≤◌, Bool, true, false, cond, ◌||◌, ltb, List, [], ◌∷◌, ◌++◌, length, get_or, drop, Some, None, Option, sym, refl, ap, ◌∙◌, subst, append_assoc, append-nil, arith, length-append, lt-ltb}
-use Rattle.syntax.specs.Tree.{Place, Name, Pattern, Patterns, Tree, Trees, Alternatives, Optional}
-use Rattle.syntax.specs.Names.{same, among, Occurrence, names, all_names, free, free_all, free_in, free_of}
+use Rattle.std.proofs.Common.{◌≡◌, ℕ, zero, suc, ◌+◌, ◌-◌, ◌*◌, ◌<◌, ◌≤◌, Bool, true, false, cond, ◌||◌, List, [], ◌∷◌, ◌++◌, length, drop, Some, None, Option, sym, refl, ap, ◌∙◌, append_assoc, append-nil, arith, length-append, lt-ltb}
+use Rattle.syntax.specs.Tree.{Name, Pattern, Patterns, Tree, Trees, Alternatives, Optional}
+use Rattle.syntax.specs.Names.{among, Occurrence, names, all_names, free, free_all, free_in, free_of}
 use Rattle.syntax.proofs.Names.{among_append}
 use Rattle.grammar.specs.Places.{places, trees_places, alternatives_places, optional_places, pattern_places, patterns_places}
 use Rattle.reading.specs.declared.entry.Span.{Span}
 use Rattle.reading.specs.declared.entry.Entry.{Entry}
 use Rattle.reading.specs.declared.entry.Entry.TheVariants as entry
-use Rattle.reading.specs.Entries.{spelled, valued, Stands, HoldsPattern, HoldsPatterns, Holds, HoldsItems, HoldsArms, HoldsOptional}
+use Rattle.reading.specs.Entries.{spelled, Stands, HoldsPattern, HoldsPatterns, Holds, HoldsItems, HoldsArms, HoldsOptional}
 use Rattle.checking.specs.Sightings.{node, numeral, part_number, bound}
-use Rattle.checking.specs.Walk.{Tally, Seen, Trail, count, Walks, Item, Arm, bind, further, walks, linked, entry_item, entry_arm, occurrence, see_node, see_number, see_bound, see_name, visit, visit_items, visit_arms, visit_pattern, visit_patterns, visit_optional, visit_filter, visit_under, visit_right}
+use Rattle.checking.specs.Walk.{Tally, Seen, Trail, count, Walks, bind, walks, entry_item, entry_arm, see_node, see_number, see_bound, see_name, visit, visit_items, visit_arms, visit_pattern, visit_patterns, visit_optional, visit_filter, visit_under, visit_right}
 use Rattle.checking.proofs.Going.{walks_more}
 use Rattle.checking.proofs.Surveys.{counted, Survey, ◌⊕◌, own, stated, note, joins, joins_2, joins_3, survey, survey_all, survey_in, survey_of, survey_pattern, survey_patterns}
 

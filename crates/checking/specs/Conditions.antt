@@ -1,5 +1,5 @@
 -- The conditions under which a rule is refused, and what is known of a rule that is not.
-use Rattle.std.specs.Prelude.{◌≡◌, ℕ, ◌+◌, ◌<◌, ◌≤◌, ◌⊎◌, List, [], ◌∷◌, ◌++◌, map, length}
+use Rattle.std.specs.Prelude.{◌≡◌, ◌<◌, ◌≤◌, ◌⊎◌, List, [], ◌∷◌, map, length}
 use Rattle.syntax.specs.Tree.{Place, Name, Tree}
 use Rattle.syntax.specs.Names.{In, Occurrence, free}
 use Rattle.grammar.specs.Places.{Distinct}

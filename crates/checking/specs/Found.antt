@@ -1,5 +1,5 @@
 -- What the notes of check say, and how they decide.
-use Rattle.std.specs.Prelude.{◌≡◌, ℕ, List, [], ◌∷◌, map, take, Some, None, Option}
+use Rattle.std.specs.Prelude.{ℕ, List, map, take, Some, None, Option}
 use Rattle.reading.specs.declared.entry.Span.{Span}
 use Rattle.checking.specs.Walk.{Seen, occurrence}
 use Rattle.checking.specs.declared.call.Refusal.{Refusal}

@@ -1,6 +1,6 @@
 -- How check goes through the entries of a draft, and what it notes on the way. On the entries of a tree it notes what the tree shows
 -- (proofs `Walking`); any other entries come to an end too.
-use Rattle.std.specs.Prelude.{◌≡◌, ℕ, zero, suc, ◌+◌, min, Bool, true, false, cond, not, ◌&&◌, ◌||◌, List, [], ◌∷◌, ◌++◌, map, length, drop, Some, None, Option, ◌==◌, nat_lt, slice_index_or}
+use Rattle.std.specs.Prelude.{ℕ, zero, suc, ◌+◌, min, Bool, cond, ◌||◌, List, [], ◌∷◌, ◌++◌, length, drop, Some, None, Option, ◌==◌, nat_lt, slice_index_or}
 use Rattle.syntax.specs.Tree.{Name}
 use Rattle.syntax.specs.Names.{among, Occurrence}
 use Rattle.reading.specs.declared.entry.Span.{Span}

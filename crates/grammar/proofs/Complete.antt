@@ -1,20 +1,18 @@
 -- Whatever the grammar derives is read.
-use Rattle.std.proofs.Common.{◌≡◌, ℕ, zero, suc, ◌<◌, ◌≤◌, Bool, true, false, cond, ◌||◌, ◌⊎◌, List, [], ◌∷◌, ◌++◌, Some, None, Option, sym, refl, ap, ◌∙◌, subst, inl, inr, true≢false, append_assoc, arith, lit<, lit≤}
-use mathlib.Core.Bool.{false≢true}
+use Rattle.std.proofs.Common.{◌≡◌, zero, suc, ◌≤◌, Bool, true, false, ◌⊎◌, List, [], ◌∷◌, ◌++◌, Some, sym, refl, ap, ◌∙◌, subst, inl, inr, append_assoc, arith, lit<, lit≤}
 use Rattle.tokens.specs.declared.Mark.{Mark}
 use Rattle.tokens.specs.declared.Mark.TheVariants as sign
 use Rattle.tokens.specs.Lexeme.{Symbol, Lexeme}
 use Rattle.syntax.specs.declared.Binary.TheVariants as bin
 use Rattle.syntax.specs.declared.Quantifier.{Quantifier}
 use Rattle.syntax.specs.declared.Quantifier.TheVariants as quant
-use Rattle.syntax.specs.declared.Collection.TheVariants as coll
 use Rattle.syntax.specs.Tree.{Place, Name, Pattern, Patterns, Tree, Trees, Alternatives, Optional}
-use Rattle.grammar.specs.Grammar.{◌at◌, ◌name_at◌, ◌numeral_at◌, Left, Lead, Operation, join, Infix, infix_of_mark, Prefix, prefix_of_mark, Sort, under, under_lead, Bracket, opening, closing, kind, truth, word, Derives, DerivesBind, DerivesItems, DerivesCases, DerivesPattern, DerivesPatterns, count, count_patterns}
+use Rattle.grammar.specs.Grammar.{◌at◌, ◌name_at◌, ◌numeral_at◌, Left, Lead, Operation, join, Infix, infix_of_mark, Sort, under, under_lead, Bracket, opening, closing, kind, truth, word, Derives, DerivesBind, DerivesItems, DerivesCases, DerivesPattern, DerivesPatterns, count, count_patterns}
 use Rattle.grammar.specs.Grammar.{p_any, p_name, p_numeral, p_truth, p_empty, p_sequence, p_tuple, p_last, p_more, d_let, d_let_be, d_if, d_cases, d_quantifier, d_connected, d_else, d_elseif, d_chain, d_link, d_implies, d_premise, d_prefix, d_bare, d_relation, d_in_set, d_not_in_set, d_side, d_apply, d_select, d_atom, d_numeral, d_truth, d_name, d_paren, d_empty, d_members, d_comprehension, d_filter, d_range, d_tuple, d_bind, d_last, d_more, d_only, d_others, d_next}
-use Rattle.grammar.specs.Steps.{same, Test, is, is_name, is_numeral, same_left, same_lead, infix_at, prefix_at, is_chain, is_lead, is_relation, joins, relates, leads, operation, relation_of, unary_of, Limit, any, most, several, Next, may, must, last, next, Job, parse, more, applied, bind, items, arms, pattern, patterns, Bind, Arms, Result, Prog, ret, on, want, ahead, call, closed, such_that, let_tail, cases_tail, quantifier_tail, members, after_comma, after_bar, after_first, collected, tuple_tail, right_side, member, after_item, after_pattern, sequence_tail, Out, out, first, second, Hits, Misses, body, Run, r_ret, r_on, r_off, r_want, r_refuse, r_both, r_only, r_none, r_call, r_fails}
+use Rattle.grammar.specs.Steps.{is, same_left, same_lead, is_chain, is_lead, is_relation, joins, operation, relation_of, unary_of, Limit, any, most, several, next, Job, parse, more, applied, bind, items, arms, pattern, patterns, Result, Prog, quantifier_tail, members, after_comma, collected, right_side, member, after_item, after_pattern, Out, out, first, Hits, Misses, body, Run, r_ret, r_on, r_off, r_want, r_both, r_only, r_none, r_call}
 use Rattle.grammar.proofs.Meets.{Within}
 use Rattle.grammar.proofs.Table.{same_refl, items_some, patterns_some}
-use Rattle.grammar.proofs.Follow.{level, depth, rank, StopIn, Stops, tighter, level_under, level_some, depth_lead, rank_chain, miss_chain, miss_relates, miss_mark, sign_stops, closes, in_stops, bracket_stops, hit_or_miss, height, Starts, starts, starts_items, not_first, no_lead, no_quantifier, Begins, pattern_begins, patterns_begin, begins_on, no_pattern, rank_relates}
+use Rattle.grammar.proofs.Follow.{level, depth, rank, StopIn, Stops, tighter, level_under, level_some, depth_lead, rank_chain, miss_chain, miss_relates, miss_mark, sign_stops, closes, in_stops, bracket_stops, hit_or_miss, Starts, starts, starts_items, not_first, no_lead, no_quantifier, Begins, pattern_begins, patterns_begin, begins_on, no_pattern, rank_relates}
 
 abbrev pub Reads : (j : Job) → List Lexeme → List Lexeme → Result j → Type 0
 Reads j us rest a = (then : Bool) × Run j (body j) (us ++ rest) false (out (Some a) rest then)

@@ -1,5 +1,5 @@
 -- The examples, computed.
-use Rattle.std.proofs.Common.{◌≡◌, ℕ, suc, ◌<◌, ◌≤◌, Bool, true, false, List, [], ◌∷◌, length, drop, Some, None, Option, sym, refl, ap, ◌∙◌, subst, arith, lit<, lit≤}
+use Rattle.std.proofs.Common.{◌≡◌, ℕ, suc, ◌<◌, ◌≤◌, false, List, [], ◌∷◌, length, drop, Some, None, Option, refl, arith, lit<, lit≤}
 use Rattle.tokens.specs.Lexeme.{Symbol, Lexeme}
 use Rattle.syntax.specs.Tree.{Tree}
 use Rattle.syntax.specs.Names.{free, free_all, free_in, free_of}

@@ -1,8 +1,8 @@
 -- The program computed, with so much fuel: for examples.
-use Rattle.std.proofs.Common.{◌≡◌, ℕ, zero, suc, Bool, true, false, List, [], ◌∷◌, ◌++◌, Some, None, Option, sym, refl, ap, ◌∙◌, subst}
+use Rattle.std.proofs.Common.{◌≡◌, ℕ, zero, suc, Bool, true, false, List, [], ◌∷◌, Some, None, Option, sym, refl, ap, subst}
 use mathlib.Core.Bool.{false≢true}
 use Rattle.tokens.specs.Lexeme.{Symbol, Lexeme}
-use Rattle.grammar.specs.Steps.{Test, Job, Result, Prog, ret, on, want, ahead, call, Out, out, first, second, Hits, Misses, body, Run, r_ret, r_on, r_off, r_want, r_refuse, r_both, r_only, r_none, r_call, r_fails}
+use Rattle.grammar.specs.Steps.{Test, Job, Result, Prog, ret, on, want, ahead, call, Out, out, first, Hits, Misses, body, Run, r_ret, r_on, r_off, r_want, r_refuse, r_both, r_only, r_none, r_call, r_fails}
 
 abbrev hit : Test → List Lexeme → Bool
 hit t [] = false

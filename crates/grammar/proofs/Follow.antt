@@ -1,16 +1,15 @@
 -- Which tokens go on behind an operand, and which begin one.
-use Rattle.std.proofs.Common.{◌≡◌, ℕ, suc, ◌<◌, ◌≤◌, Bool, true, false, cond, ◌||◌, ◌⊎◌, List, [], ◌∷◌, ◌++◌, Some, None, Option, sym, refl, ap, ◌∙◌, subst, inl, inr, true≢false, arith, lit<, lit≤}
+use Rattle.std.proofs.Common.{◌≡◌, ℕ, ◌<◌, ◌≤◌, Bool, true, false, cond, ◌||◌, ◌⊎◌, List, [], ◌∷◌, ◌++◌, Some, None, Option, sym, refl, ap, ◌∙◌, subst, inl, inr, arith, lit<, lit≤}
 use mathlib.Core.Bool.{false≢true}
 use Rattle.tokens.specs.declared.Mark.{Mark}
 use Rattle.tokens.specs.declared.Mark.TheVariants as sign
 use Rattle.tokens.specs.Lexeme.{Symbol, Lexeme}
-use Rattle.syntax.specs.declared.Unary.{Unary}
 use Rattle.syntax.specs.declared.Binary.{Binary}
 use Rattle.syntax.specs.declared.Quantifier.TheVariants as quant
-use Rattle.syntax.specs.Tree.{Place, Name, Pattern, Patterns, Tree, Trees}
-use Rattle.grammar.specs.Grammar.{◌at◌, ◌name_at◌, ◌numeral_at◌, Left, Lead, Operation, Infix, infix_of_mark, Prefix, prefix_of_mark, Sort, under, under_lead, Bracket, opening, closing, truth, word, Derives, DerivesItems, DerivesPattern, DerivesPatterns}
+use Rattle.syntax.specs.Tree.{Place, Pattern, Patterns, Tree, Trees}
+use Rattle.grammar.specs.Grammar.{◌at◌, Left, Lead, Infix, Prefix, Sort, under, under_lead, Bracket, opening, closing, truth, word, Derives, DerivesItems, DerivesPattern, DerivesPatterns}
 use Rattle.grammar.specs.Grammar.{p_any, p_name, p_numeral, p_truth, p_empty, p_sequence, p_tuple, p_last, p_more, d_let, d_let_be, d_if, d_cases, d_quantifier, d_connected, d_else, d_elseif, d_chain, d_link, d_implies, d_premise, d_prefix, d_bare, d_relation, d_in_set, d_not_in_set, d_side, d_apply, d_select, d_atom, d_numeral, d_truth, d_name, d_paren, d_empty, d_members, d_comprehension, d_filter, d_range, d_tuple, d_last, d_more}
-use Rattle.grammar.specs.Steps.{same, Test, is, is_name, is_numeral, is_quantifier, same_left, same_lead, infix_at, prefix_at, is_chain, joins, relates, leads, operation, relation_of, unary_of, first, second, Hits, Misses}
+use Rattle.grammar.specs.Steps.{same, Test, is, is_quantifier, infix_at, prefix_at, joins, relates, leads, operation, first, second, Hits, Misses}
 use Rattle.grammar.proofs.Runs.{not_both}
 use Rattle.grammar.proofs.Tokens.{same_mark, chain_of, relates_of, leads_of, or_true, bool_cases}
 

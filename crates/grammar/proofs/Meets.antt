@@ -1,14 +1,12 @@
 -- What a program reads is what a grammar has, and what it has read at a refusal can be completed: by the program's shape alone, for every run.
-use Rattle.std.proofs.Common.{◌≡◌, ℕ, suc, ◌≤◌, Bool, true, false, cond, not, ◌&&◌, ◌||◌, List, [], ◌∷◌, ◌++◌, Some, None, Option, sym, refl, ap, ◌∙◌, subst, true≢false, append_assoc, append-nil, arith, lit≤}
+use Rattle.std.proofs.Common.{◌≡◌, ℕ, suc, ◌≤◌, Bool, true, false, not, ◌&&◌, List, [], ◌∷◌, ◌++◌, Some, None, Option, sym, refl, ap, ◌∙◌, subst, true≢false, append_assoc, append-nil, arith, lit≤}
 use mathlib.Core.Bool.{false≢true}
-use Rattle.tokens.specs.declared.Mark.{Mark}
 use Rattle.tokens.specs.declared.Mark.TheVariants as sign
 use Rattle.tokens.specs.Lexeme.{Symbol, Lexeme}
-use Rattle.syntax.specs.Tree.{Place, Name, Pattern, Patterns, Tree, Trees, Alternatives, Optional}
-use Rattle.grammar.specs.Grammar.{◌at◌, ◌name_at◌, ◌numeral_at◌, Left, Lead, Infix, infix_of_mark, Prefix, prefix_of_mark, Sort, Derives, DerivesBind, DerivesItems, DerivesCases, DerivesPattern, DerivesPatterns, count, count_patterns, d_connected, d_else, d_link, d_premise, d_bare, d_side, d_atom, d_name, d_bind, d_last, d_more, d_only, p_any, p_last, p_more}
-use Rattle.grammar.specs.Steps.{Test, is, is_name, is_numeral, joins, relates, leads, operation, relation_of, unary_of, Limit, any, most, several, Job, parse, more, applied, bind, items, arms, pattern, patterns, Bind, Arms, Result, Prog, ret, on, want, ahead, call, Out, out, first, second, Hits, Misses, body, Run, r_ret, r_on, r_off, r_want, r_refuse, r_both, r_only, r_none, r_call, r_fails}
-use Rattle.grammar.proofs.Runs.{not_both}
-use Rattle.grammar.proofs.Tokens.{same_mark, at_mark, at_either, at_name, at_numeral, at_chain, at_relation, at_lead}
+use Rattle.syntax.specs.Tree.{Pattern, Tree, Alternatives, Optional}
+use Rattle.grammar.specs.Grammar.{◌at◌, ◌name_at◌, Left, Lead, Sort, Derives, DerivesBind, DerivesItems, DerivesCases, DerivesPattern, DerivesPatterns, count, count_patterns, d_connected, d_else, d_link, d_premise, d_bare, d_side, d_atom, d_name, d_bind, d_last, d_more, d_only, p_any, p_last, p_more}
+use Rattle.grammar.specs.Steps.{Test, is, Limit, any, most, several, Job, parse, more, applied, bind, items, arms, pattern, patterns, Result, Prog, ret, on, want, ahead, call, out, first, Hits, Misses, body, Run, r_ret, r_on, r_off, r_want, r_refuse, r_both, r_only, r_none, r_call, r_fails}
+use Rattle.grammar.proofs.Tokens.{same_mark}
 
 abbrev pub Within : Limit → ℕ → Type 0
 Within any n = Unit {0}

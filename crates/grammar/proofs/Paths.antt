@@ -1,5 +1,5 @@
 -- The steps of a run, for a reader that knows its tokens by their numbers: what is left is equal to a token and the rest.
-use Rattle.std.proofs.Common.{◌≡◌, Bool, true, false, cond, ◌||◌, List, [], ◌∷◌, Some, None, Option, sym, refl, ap, ◌∙◌, subst}
+use Rattle.std.proofs.Common.{◌≡◌, Bool, true, false, cond, ◌||◌, List, ◌∷◌, Some, None, Option, sym, refl, ap, ◌∙◌, subst}
 use Rattle.tokens.specs.declared.Mark.TheVariants as sign
 use Rattle.tokens.specs.Lexeme.{Symbol, Lexeme}
 use Rattle.syntax.specs.declared.Quantifier.TheVariants as quant

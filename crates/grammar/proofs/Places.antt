@@ -1,11 +1,11 @@
 -- Each expression and each pattern has a token of its own.
-use Rattle.std.proofs.Common.{◌≡◌, ℕ, suc, ◌+◌, ◌<◌, ◌≤◌, Bool, true, false, cond, eqb, List, [], ◌∷◌, ◌++◌, length, sym, refl, ap, ◌∙◌, subst, arith, true-eqb}
+use Rattle.std.proofs.Common.{◌≡◌, ℕ, suc, ◌+◌, ◌<◌, ◌≤◌, Bool, true, false, cond, eqb, List, [], ◌∷◌, ◌++◌, length, sym, refl, ap, arith, true-eqb}
 use Rattle.tokens.specs.declared.Mark.TheVariants as sign
 use Rattle.tokens.specs.Lexeme.{Lexeme}
 use Rattle.syntax.specs.Tree.{Place, Name, Pattern, Patterns, Tree, Trees, Alternatives, Optional}
-use Rattle.grammar.specs.Grammar.{◌at◌, ◌name_at◌, ◌numeral_at◌, Left, Lead, under, under_lead, Operation, join, Bracket, opening, closing, word, truth, Sort, Derives, DerivesBind, DerivesItems, DerivesCases, DerivesPattern, DerivesPatterns}
+use Rattle.grammar.specs.Grammar.{◌at◌, ◌numeral_at◌, Left, Lead, under, under_lead, Operation, join, closing, Sort, Derives, DerivesBind, DerivesItems, DerivesCases, DerivesPattern, DerivesPatterns}
 use Rattle.grammar.specs.Grammar.{p_any, p_name, p_numeral, p_truth, p_empty, p_sequence, p_tuple, p_last, p_more, d_let, d_let_be, d_if, d_cases, d_quantifier, d_connected, d_else, d_elseif, d_chain, d_link, d_implies, d_premise, d_prefix, d_bare, d_relation, d_in_set, d_not_in_set, d_side, d_apply, d_select, d_atom, d_numeral, d_truth, d_name, d_paren, d_empty, d_members, d_comprehension, d_filter, d_range, d_tuple, d_bind, d_last, d_more, d_only, d_others, d_next}
-use Rattle.grammar.specs.Places.{pattern_places, patterns_places, places, trees_places, alternatives_places, optional_places, times, Distinct, Ascend, spots, before, above, OwnPlaces}
+use Rattle.grammar.specs.Places.{pattern_places, patterns_places, places, trees_places, alternatives_places, optional_places, times, Ascend, spots, before, above, OwnPlaces}
 
 -- places weighed, whatever they weigh
 module _ (μ : ℕ → ℕ) where

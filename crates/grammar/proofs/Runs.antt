@@ -1,8 +1,8 @@
 -- What holds of every run, whatever the program: it has one outcome, and does not see past the token that it stops at.
-use Rattle.std.proofs.Common.{◌≡◌, ℕ, Bool, true, false, cond, List, [], ◌∷◌, ◌++◌, Some, None, Option, sym, refl, ap, ◌∙◌, subst, true≢false, append_assoc}
+use Rattle.std.proofs.Common.{◌≡◌, Bool, true, false, List, [], ◌∷◌, ◌++◌, Some, None, Option, sym, refl, ap, ◌∙◌, subst, true≢false, append_assoc}
 use mathlib.Core.Bool.{false≢true}
-use Rattle.tokens.specs.Lexeme.{Symbol, Lexeme}
-use Rattle.grammar.specs.Steps.{Test, Job, Result, Prog, ret, on, want, ahead, call, Out, out, first, second, Hits, Misses, body, Run, r_ret, r_on, r_off, r_want, r_refuse, r_both, r_only, r_none, r_call, r_fails}
+use Rattle.tokens.specs.Lexeme.{Lexeme}
+use Rattle.grammar.specs.Steps.{Test, Job, Result, Prog, call, Out, out, first, second, Hits, Misses, Run, r_ret, r_on, r_off, r_want, r_refuse, r_both, r_only, r_none, r_call, r_fails}
 
 -- k goes on from what a run came to, which is no refusal
 abbrev After : (i j : Job) → (Result j → Prog (Result i)) → Out (Result j) → Out (Result i) → Type 0

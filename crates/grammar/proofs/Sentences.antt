@@ -1,16 +1,16 @@
 -- From a run to what it says of sentences.
-use Rattle.std.proofs.Common.{◌≡◌, ℕ, suc, ◌+◌, ◌<◌, ◌≤◌, Bool, true, false, List, [], ◌∷◌, ◌++◌, length, get_or, take, drop, Some, None, Option, sym, refl, ap, ◌∙◌, subst, true≢false, append_assoc, append-nil, add-one, arith, lit<, length-drop, take-append-drop, drop-cons, take-suc}
+use Rattle.std.proofs.Common.{◌≡◌, ℕ, ◌+◌, ◌<◌, ◌≤◌, Bool, true, false, List, [], ◌∷◌, ◌++◌, length, get_or, take, drop, Some, None, Option, sym, refl, ap, ◌∙◌, subst, append_assoc, append-nil, add-one, arith, lit<, length-drop, take-append-drop, drop-cons, take-suc}
 use mathlib.Core.Bool.{false≢true}
 use mathlib.Core.List.{append_cancel_right}
 use Rattle.tokens.specs.Lexeme.{Lexeme}
 use Rattle.syntax.specs.Tree.{Tree}
-use Rattle.grammar.specs.Grammar.{◌name_at◌, Left, Lead, Sort, Derives}
+use Rattle.grammar.specs.Grammar.{◌name_at◌, Lead, Sort, Derives}
 use Rattle.grammar.specs.Steps.{parse, Out, out, body, Run}
-use Rattle.grammar.specs.Sentences.{Begins, Accepted, Refused, OneTree, Comes, OneOutcome, Complete, Sound, FirstBad}
-use Rattle.grammar.proofs.Runs.{det, local, Local, cons_not_nil}
+use Rattle.grammar.specs.Sentences.{Begins, OneTree, OneOutcome, Complete, Sound, FirstBad}
+use Rattle.grammar.proofs.Runs.{det, local, cons_not_nil}
 use Rattle.grammar.proofs.Meets as meets
 use Rattle.grammar.proofs.Table.{table}
-use Rattle.grammar.proofs.Follow.{depth, Stops, level_some}
+use Rattle.grammar.proofs.Follow.{depth, level_some}
 use Rattle.grammar.proofs.Complete.{complete, finish}
 
 depth_some : (s : Sort) → 0 < depth s

@@ -1,17 +1,17 @@
 -- Each job's program reads what the grammar has under that name.
-use Rattle.std.proofs.Common.{◌≡◌, ℕ, zero, suc, ◌≤◌, Bool, true, false, cond, not, ◌&&◌, ◌||◌, eqb, List, [], ◌∷◌, ◌++◌, sym, refl, ap, ◌∙◌, subst, true≢false, append_assoc, append-nil, arith, lit≤, eq-eqb}
+use Rattle.std.proofs.Common.{◌≡◌, ℕ, zero, suc, ◌≤◌, Bool, true, false, ◌&&◌, ◌||◌, List, [], ◌∷◌, ◌++◌, sym, refl, ap, ◌∙◌, subst, append_assoc, append-nil, arith, lit≤, eq-eqb}
 use mathlib.Core.Bool.{false≢true}
 use Rattle.tokens.specs.declared.Mark.{Mark}
 use Rattle.tokens.specs.declared.Mark.TheVariants as sign
 use Rattle.tokens.specs.Spelling.{number}
-use Rattle.tokens.specs.Lexeme.{Symbol, Lexeme}
+use Rattle.tokens.specs.Lexeme.{Lexeme}
 use Rattle.syntax.specs.declared.Binary.TheVariants as bin
 use Rattle.syntax.specs.declared.Quantifier.{Quantifier}
 use Rattle.syntax.specs.declared.Quantifier.TheVariants as quant
-use Rattle.syntax.specs.Tree.{Place, Name, Pattern, Patterns, Tree, Trees, Alternatives, Optional}
-use Rattle.grammar.specs.Grammar.{◌at◌, ◌name_at◌, ◌numeral_at◌, Left, Lead, Infix, infix_of_mark, Prefix, prefix_of_mark, Sort, under, Bracket, opening, closing, kind, word, Derives, DerivesBind, DerivesItems, DerivesCases, DerivesPattern, DerivesPatterns, count, count_patterns}
+use Rattle.syntax.specs.Tree.{Place, Name, Pattern, Patterns, Tree, Trees}
+use Rattle.grammar.specs.Grammar.{◌at◌, ◌name_at◌, ◌numeral_at◌, Left, Lead, Infix, infix_of_mark, Prefix, prefix_of_mark, Sort, Bracket, opening, closing, kind, word, Derives, DerivesItems, DerivesPattern, DerivesPatterns, count, count_patterns}
 use Rattle.grammar.specs.Grammar.{p_any, p_name, p_numeral, p_truth, p_empty, p_sequence, p_tuple, p_last, p_more, d_let, d_let_be, d_if, d_cases, d_quantifier, d_connected, d_else, d_elseif, d_chain, d_link, d_implies, d_premise, d_prefix, d_bare, d_relation, d_in_set, d_not_in_set, d_side, d_apply, d_select, d_atom, d_numeral, d_truth, d_name, d_paren, d_empty, d_members, d_comprehension, d_filter, d_range, d_tuple, d_bind, d_last, d_more, d_only, d_others, d_next}
-use Rattle.grammar.specs.Steps.{same, Test, is, is_name, is_numeral, joins, relates, leads, operation, relation_of, unary_of, Limit, any, most, several, next, Job, parse, more, applied, bind, items, arms, pattern, patterns, Bind, Arms, Result, Prog, ret, on, want, ahead, call, body, such_that, let_tail, cases_tail, quantifier_tail, members, after_comma, after_bar, after_first, collected, tuple_tail, right_side, member, after_item, after_pattern, sequence_tail}
+use Rattle.grammar.specs.Steps.{same, is, is_name, is_numeral, joins, relates, leads, operation, relation_of, unary_of, Limit, any, most, several, next, Job, parse, more, applied, bind, items, arms, pattern, patterns, Result, Prog, ret, on, want, call, body, such_that, let_tail, cases_tail, quantifier_tail, members, after_comma, after_bar, collected, right_side, member, after_item, after_pattern}
 use Rattle.grammar.proofs.Tokens.{at_mark, at_either, at_name, at_numeral, at_chain, at_relation, at_lead}
 use Rattle.grammar.proofs.Meets.{Within, Derived, flag, enters, missed, Meets, m_ret, m_on, m_want, m_ahead, m_call}
 

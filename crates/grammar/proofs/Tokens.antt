@@ -1,14 +1,13 @@
 -- What a token is of which a test holds.
-use Rattle.std.proofs.Common.{◌≡◌, ℕ, Bool, true, false, cond, ◌||◌, eqb, List, [], ◌∷◌, sym, refl, ap, ◌∙◌, subst, true≢false, true-eqb}
+use Rattle.std.proofs.Common.{◌≡◌, ℕ, Bool, true, false, ◌||◌, sym, refl, ap, subst, true≢false, true-eqb}
 use mathlib.Core.Bool.{false≢true}
 use Rattle.tokens.specs.declared.Mark.{Mark}
-use Rattle.tokens.specs.declared.Mark.TheVariants as sign
 use Rattle.tokens.specs.Spelling.{number}
 use Rattle.tokens.specs.Lexeme.{Symbol, Lexeme}
 use Rattle.tokens.proofs.Listed.{same_number}
 use Rattle.syntax.specs.Tree.{Place, Name}
 use Rattle.grammar.specs.Grammar.{◌at◌, ◌name_at◌, ◌numeral_at◌, Left, Lead, Infix, infix_of_mark, Prefix, prefix_of_mark}
-use Rattle.grammar.specs.Steps.{same, is, is_name, is_numeral, same_left, same_lead, infix_at, prefix_at, is_chain, is_relation, is_lead, joins, relates, leads, operation, relation_of, unary_of}
+use Rattle.grammar.specs.Steps.{same, is, is_name, is_numeral, same_left, same_lead, is_chain, is_relation, is_lead, joins, relates, leads, operation, relation_of, unary_of}
 
 pub same_mark : (m n : Mark) → same m n ≡ true → m ≡ n
 same_mark m n e = same_number m n (true-eqb (number m) (number n) (sym e))

@@ -1,5 +1,5 @@
 -- Rules small enough to be looked at, with their trees or their first bad tokens. The tokens are numbered from 0.
-use Rattle.std.specs.Prelude.{◌≡◌, ℕ, suc, Bool, true, false, List, [], ◌∷◌, ◌++◌}
+use Rattle.std.specs.Prelude.{◌≡◌, ℕ, suc, List, [], ◌∷◌}
 use Rattle.tokens.specs.declared.Mark.TheVariants as sign
 use Rattle.tokens.specs.Lexeme.{Symbol, Lexeme}
 use Rattle.syntax.specs.declared.Unary.TheVariants as un
@@ -7,7 +7,7 @@ use Rattle.syntax.specs.declared.Binary.TheVariants as bin
 use Rattle.syntax.specs.declared.Connective.TheVariants as con
 use Rattle.syntax.specs.declared.Quantifier.TheVariants as quant
 use Rattle.syntax.specs.declared.Collection.TheVariants as coll
-use Rattle.syntax.specs.Tree.{Pattern, Patterns, Tree, Trees, Alternatives, Optional}
+use Rattle.syntax.specs.Tree.{Pattern, Patterns, Tree, Alternatives, Optional}
 use Rattle.syntax.specs.Names.{free}
 use Rattle.grammar.specs.Grammar.{Sort}
 use Rattle.grammar.specs.Sentences.{Accepted, Refused}

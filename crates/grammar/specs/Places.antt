@@ -1,5 +1,5 @@
 -- The places of a tree: each expression and each pattern has a token of its own.
-use Rattle.std.specs.Prelude.{◌≡◌, ℕ, suc, ◌+◌, ◌<◌, ◌≤◌, cond, List, [], ◌∷◌, ◌++◌, length, ◌==◌}
+use Rattle.std.specs.Prelude.{ℕ, suc, ◌+◌, ◌≤◌, cond, List, [], ◌∷◌, ◌++◌, length, ◌==◌}
 use Rattle.tokens.specs.Lexeme.{Lexeme}
 use Rattle.syntax.specs.Tree.{Pattern, Patterns, Tree, Trees, Alternatives, Optional}
 use Rattle.grammar.specs.Grammar.{Sort, Derives}

@@ -1,6 +1,6 @@
 -- What holds of the grammar and of the reading program: the tokens are a sentence with one tree, or there is a first bad token.
 -- The sort at which the grammar starts is a parameter throughout.
-use Rattle.std.specs.Prelude.{◌≡◌, ℕ, ◌+◌, ◌<◌, ◌≤◌, Bool, true, false, List, [], ◌∷◌, ◌++◌, length, take, drop, Some, None, Option}
+use Rattle.std.specs.Prelude.{◌≡◌, ℕ, ◌+◌, ◌<◌, ◌≤◌, Bool, false, List, [], ◌++◌, length, take, drop, Some, None, Option}
 use Rattle.tokens.specs.Lexeme.{Lexeme}
 use Rattle.syntax.specs.Tree.{Tree}
 use Rattle.grammar.specs.Grammar.{Sort, Derives}

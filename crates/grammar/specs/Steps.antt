@@ -1,5 +1,5 @@
 -- A reader as a small program over the tokens, and what it comes to. The rules of Run are of no grammar.
-use Rattle.std.specs.Prelude.{◌≡◌, ℕ, zero, suc, Bool, true, false, cond, ◌||◌, List, [], ◌∷◌, ◌++◌, Some, None, Option, ◌==◌}
+use Rattle.std.specs.Prelude.{◌≡◌, ℕ, zero, suc, Bool, true, false, cond, ◌||◌, List, [], ◌∷◌, Some, None, Option, ◌==◌}
 use Rattle.tokens.specs.declared.Mark.{Mark}
 use Rattle.tokens.specs.declared.Mark.TheVariants as sign
 use Rattle.tokens.specs.Spelling.{number}
@@ -11,10 +11,9 @@ use Rattle.syntax.specs.declared.Binary.TheVariants as bin
 use Rattle.syntax.specs.declared.Connective.TheVariants as con
 use Rattle.syntax.specs.declared.Quantifier.{Quantifier}
 use Rattle.syntax.specs.declared.Quantifier.TheVariants as quant
-use Rattle.syntax.specs.declared.Collection.{Collection}
 use Rattle.syntax.specs.declared.Collection.TheVariants as coll
 use Rattle.syntax.specs.Tree.{Place, Name, Pattern, Patterns, Tree, Trees, Alternatives, Optional}
-use Rattle.grammar.specs.Grammar.{Left, Lead, Operation, join, Infix, infix_of_mark, Prefix, prefix_of_mark, Bracket, opening, closing, kind, Sort, under, under_lead}
+use Rattle.grammar.specs.Grammar.{Left, Lead, Operation, join, Infix, infix_of_mark, Prefix, prefix_of_mark, Bracket, closing, kind, Sort, under, under_lead}
 
 -- Tests of a token
 

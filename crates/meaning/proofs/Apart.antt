@@ -1,5 +1,5 @@
 -- In the tree of a text no two `let be` stand at one place: each has the place of a token of its own, and the places of tokens rise.
-use Rattle.std.proofs.Common.{◌≡◌, ℕ, suc, ◌+◌, ◌<◌, ◌≤◌, ◌⊎◌, List, [], ◌∷◌, ◌++◌, map, None, Option, sym, refl, ap, ◌∙◌, subst, inl, inr, arith}
+use Rattle.std.proofs.Common.{◌≡◌, ℕ, suc, ◌+◌, ◌≤◌, List, [], ◌∷◌, ◌++◌, map, None, Option, sym, refl, ap, ◌∙◌, subst, inl, inr, arith}
 use Rattle.tokens.specs.declared.Token.{Token}
 use Rattle.tokens.specs.Lexeme.{Lexeme, lexeme}
 use Rattle.tokens.specs.Pieces.{Cut, at_end, at_separator, at_comment, at_token, at_bad}

@@ -1,11 +1,11 @@
 -- The list begins with the whole expression, and a fault's place is in it.
-use Rattle.std.proofs.Common.{◌≡◌, ℕ, Bool, ◌⊎◌, List, [], ◌∷◌, Ok, Err, Result, refl, subst, inl, inr}
+use Rattle.std.proofs.Common.{◌≡◌, ◌⊎◌, List, [], ◌∷◌, Ok, Err, Result, refl, subst, inl, inr}
 use Rattle.syntax.specs.Tree.{Place, Tree, numeral, name, unary, binary, connective, if_else, let_in, let_be, cases, quantifier, collection, range, comprehension, selection}
 use Rattle.values.specs.declared.Fault.{Fault}
 use Rattle.values.specs.Value.{Value}
 use Rattle.values.specs.Operators as op
 use Rattle.meaning.specs.Names.{In, Sight, Facts}
-use Rattle.meaning.specs.Course.{Outcome, fault, Course, ended, begins, chooses}
+use Rattle.meaning.specs.Course.{fault, Course, ended, begins, chooses}
 use Rattle.meaning.specs.Eval.{eval}
 use Rattle.meaning.specs.Play.{Picker, outcome, begun}
 use Rattle.meaning.specs.Laws.{place, Beginning}

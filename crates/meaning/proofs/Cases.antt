@@ -1,20 +1,19 @@
 -- Patterns and `cases`.
-use Rattle.std.proofs.Common.{◌≡◌, ℕ, Bool, true, false, cond, List, [], ◌∷◌, ◌++◌, pos, sym, refl, ap, ◌∙◌, subst}
+use Rattle.std.proofs.Common.{◌≡◌, Bool, true, false, cond, List, [], ◌∷◌, ◌++◌, pos, sym, refl, ap, ◌∙◌, subst}
 use mathlib.Core.Option.{Option, none, some}
 use Rattle.std.specs.Ordering.{is_eq}
 use Rattle.syntax.specs.declared.Collection.{Collection}
 use Rattle.syntax.specs.declared.Collection.TheVariants.{Set, Sequence, Tuple}
-use Rattle.syntax.specs.Tree.{Place, Name, Pattern, Patterns, Tree, Alternatives, no_more, alternative, Optional, absent, present}
+use Rattle.syntax.specs.Tree.{Place, Pattern, Patterns, Tree, Alternatives, no_more, alternative, Optional, absent, present}
 use Rattle.values.specs.declared.Fault.TheVariants.{NoCase}
-use Rattle.values.specs.declared.Operand.TheVariants.{Many}
 use Rattle.values.specs.Value.{Value, number, truth, of, compare}
 use Rattle.values.specs.Sets.{equal}
-use Rattle.values.specs.Operators.{is, members}
+use Rattle.values.specs.Operators.{members}
 use Rattle.sets.proofs.Order.{equal_of, itself}
 use Rattle.sets.proofs.Order as order
 use Rattle.meaning.specs.Names.{Binding, Facts, Sight, bind_all}
-use Rattle.meaning.specs.Course.{Outcome, value, fault, Course, ended, begins, chooses, ◌>>=◌}
-use Rattle.meaning.specs.Eval.{strict, both, match, match_all, matched, eval, eval_cases, eval_or}
+use Rattle.meaning.specs.Course.{value, fault, Course, ended}
+use Rattle.meaning.specs.Eval.{both, match, match_all, matched, eval, eval_cases, eval_or}
 use Rattle.meaning.specs.Play.{Picker, outcome, begun}
 use Rattle.meaning.specs.Laws.{of_one, unless_fault, Matching, Cased, Casing}
 use Rattle.meaning.proofs.Orders.{strict_out, strict_list}

@@ -1,21 +1,21 @@
 -- Comprehensions, member by member.
-use Rattle.std.proofs.Common.{◌≡◌, ℕ, Bool, true, false, cond, ◌&&◌, ◌⊎◌, List, [], ◌∷◌, ◌++◌, Ok, Err, Result, sym, refl, ap, ◌∙◌, subst, inl, inr}
-use Rattle.std.proofs.lemmas.Bool.{and_parts, true≢false}
+use Rattle.std.proofs.Common.{◌≡◌, Bool, true, false, cond, ◌⊎◌, List, [], ◌∷◌, ◌++◌, Ok, Err, sym, refl, ap, ◌∙◌, subst, inl, inr}
+use Rattle.std.proofs.lemmas.Bool.{and_parts}
 use Rattle.syntax.specs.declared.Collection.{Collection}
 use Rattle.syntax.specs.declared.Collection.TheVariants.{Set, Sequence, Tuple}
 use Rattle.syntax.specs.Tree.{Place, Name, Tree, Optional}
 use Rattle.values.specs.declared.Fault.{Fault}
 use Rattle.values.specs.declared.Fault.TheVariants.{WrongKind, TooLarge}
-use Rattle.values.specs.declared.Operand.TheVariants.{Number, Many}
+use Rattle.values.specs.declared.Operand.TheVariants.{Number}
 use Rattle.values.specs.Value.{Value, number, truth, many, of, list, pack}
 use Rattle.values.specs.Lawful.{fits}
 use Rattle.values.specs.Sets.{gathered}
-use Rattle.values.specs.Operators.{is, members, grown, grow}
+use Rattle.values.specs.Operators.{is, grown, grow}
 use Rattle.meaning.specs.Names.{In, bind, Facts, Sight}
-use Rattle.meaning.specs.Course.{Outcome, value, fault, Course, ended, begins, chooses, ◌>>=◌}
-use Rattle.meaning.specs.Eval.{given, strict, told, truth_of, branch, looped, all_numbers, fit, over, added, adding, filtering, eval, eval_or}
+use Rattle.meaning.specs.Course.{Outcome, value, fault, Course, ended}
+use Rattle.meaning.specs.Eval.{given, told, truth_of, branch, looped, all_numbers, fit, over, added, adding, filtering, eval, eval_or}
 use Rattle.meaning.specs.Play.{Picker, outcome, begun}
-use Rattle.meaning.specs.Laws.{Side, yea, nay, other, failed, side, if_true, those, each, Values, collected, filtered, Comprehended, Comprehending}
+use Rattle.meaning.specs.Laws.{side, if_true, those, each, Values, collected, filtered, Comprehended, Comprehending}
 use Rattle.meaning.proofs.Plays.{outcome_bind, begun_bind}
 use Rattle.meaning.proofs.Members.{unpacked, no_more}
 

@@ -1,12 +1,12 @@
 -- An assignment by place and names in sight alone does what one does that is told the candidates too.
-use Rattle.std.proofs.Common.{◌≡◌, ℕ, Bool, true, false, cond, not, ◌&&◌, ◌||◌, eqb, ◌⊎◌, List, [], ◌∷◌, ◌++◌, sym, refl, ap, ◌∙◌, subst, inl, inr}
+use Rattle.std.proofs.Common.{◌≡◌, Bool, true, false, cond, not, ◌&&◌, ◌||◌, eqb, ◌⊎◌, List, [], ◌∷◌, ◌++◌, sym, refl, ap, ◌∙◌, subst, inl, inr}
 use mathlib.Core.Option.{Option, none, some}
 use Rattle.std.proofs.lemmas.Bool.{eqb-true, eq-eqb, or_cases, true≢false}
 use Rattle.std.specs.Ordering.{is_eq}
 use Rattle.syntax.specs.declared.Collection.{Collection}
 use Rattle.syntax.specs.declared.Collection.TheVariants.{Set}
-use Rattle.syntax.specs.Tree.{Place, Name, Tree, numeral, name, connective, if_else, let_in, let_be, cases, quantifier, collection, comprehension, selection, Trees, Alternatives, no_more, alternative, Optional, absent, present}
-use Rattle.values.specs.declared.Fault.TheVariants.{WrongKind, NoCandidate, NoCase}
+use Rattle.syntax.specs.Tree.{Place, Tree, numeral, name, connective, if_else, let_in, let_be, cases, quantifier, collection, comprehension, selection, Trees, Alternatives, no_more, alternative, Optional, absent, present}
+use Rattle.values.specs.declared.Fault.TheVariants.{WrongKind, NoCase}
 use Rattle.values.specs.declared.Operand.TheVariants.{Many}
 use Rattle.values.specs.Value.{Value, truth, of, compare}
 use Rattle.values.specs.Sets.{equal, member}
@@ -16,11 +16,10 @@ use Rattle.sets.proofs.Order as order
 use Rattle.meaning.specs.Names.{In, Binding, Sight, nothing, bind, bind_all, Facts}
 use Rattle.meaning.specs.Parts.{Site, sites, sites_all, sites_in, sites_of, Apart}
 use Rattle.meaning.specs.Course.{Outcome, value, fault, Course, ended, begins, chooses, ◌>>=◌}
-use Rattle.meaning.specs.Eval.{given, strict, told, Truth, holds, fails, truth_of, decides, branch, deciding, left, joined, connect, Body, looped, fit, over, decider, kept, searching, added, adding, filtering, candidate, testing, choice, match, matched, eval, eval_all, eval_cases, eval_or}
+use Rattle.meaning.specs.Eval.{given, strict, Truth, holds, fails, truth_of, decides, branch, deciding, left, joined, connect, Body, looped, fit, over, decider, kept, searching, added, adding, filtering, candidate, testing, choice, match, matched, eval, eval_all, eval_cases, eval_or}
 use Rattle.meaning.specs.Play.{Picker, outcome, Assigns, Allowed}
 use Rattle.meaning.specs.Laws.{Leads, Assigning}
 use Rattle.meaning.proofs.Apart.{apart}
-use Rattle.meaning.proofs.Plays.{outcome_bind}
 use Rattle.meaning.proofs.Free.{in_left, in_right}
 
 -- each choice on a picker's way is as P says

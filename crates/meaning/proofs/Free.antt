@@ -1,5 +1,5 @@
 -- The course depends on the facts at the free names only.
-use Rattle.std.proofs.Common.{◌≡◌, ℕ, Bool, true, false, cond, not, ◌&&◌, ◌||◌, eqb, ◌⊎◌, List, [], ◌∷◌, ◌++◌, pos, sym, refl, ap, ◌∙◌, subst, inl, inr}
+use Rattle.std.proofs.Common.{◌≡◌, Bool, true, false, cond, not, ◌&&◌, ◌||◌, eqb, List, [], ◌∷◌, ◌++◌, pos, sym, refl, ap, ◌∙◌, subst, inl, inr}
 use mathlib.Core.Option.{Option, none, some}
 use Rattle.std.proofs.lemmas.Bool.{and_parts, eqb-true, eq-eqb, true≢false}
 use Rattle.syntax.specs.declared.Collection.{Collection}
@@ -11,8 +11,8 @@ use Rattle.values.specs.Value.{Value}
 use Rattle.values.specs.Value as val
 use Rattle.values.specs.Operators as op
 use Rattle.values.specs.Sets.{equal}
-use Rattle.meaning.specs.Names.{In, same, Binding, Sight, nothing, bind, bind_all, Facts, known, Occurrence, among, names, all_names, free, free_all, free_in, free_of, Map, lookup, Agrees}
-use Rattle.meaning.specs.Course.{Outcome, value, fault, Course, ended, begins, chooses, ◌>>=◌}
+use Rattle.meaning.specs.Names.{In, same, Binding, Sight, nothing, bind, bind_all, Facts, known, Occurrence, among, names, all_names, free, free_all, free_in, free_of, Map, lookup}
+use Rattle.meaning.specs.Course.{Outcome, value, fault, Course, ended, begins, ◌>>=◌}
 use Rattle.meaning.specs.Eval.{strict, told, truth_of, branch, deciding, left, connect, over, decider, searching, adding, filtering, testing, choice, both, match, match_all, matched, eval, eval_all, eval_cases, eval_or}
 use Rattle.meaning.specs.Laws.{Naming}
 

@@ -1,5 +1,5 @@
 -- What holds of values all along a course, and where its faults are: one induction over the tree.
-use Rattle.std.proofs.Common.{◌≡◌, ℕ, Bool, true, false, cond, not, ◌&&◌, ◌⊎◌, List, [], ◌∷◌, ◌++◌, pos, Ok, Err, Result, sym, refl, ap, ◌∙◌, subst, inl, inr}
+use Rattle.std.proofs.Common.{◌≡◌, ℕ, Bool, true, false, cond, not, ◌&&◌, List, [], ◌∷◌, ◌++◌, pos, Ok, Err, Result, sym, refl, ap, subst, inl, inr}
 use mathlib.Core.Option.{Option, none, some}
 use Rattle.syntax.specs.declared.Unary.{Unary}
 use Rattle.syntax.specs.declared.Binary.{Binary}
@@ -9,12 +9,12 @@ use Rattle.syntax.specs.declared.Collection.{Collection}
 use Rattle.syntax.specs.declared.Collection.TheVariants.{Set, Sequence, Tuple}
 use Rattle.syntax.specs.Tree.{Place, Name, Pattern, any, binds, parts, Patterns, Tree, numeral, name, connective, if_else, let_in, let_be, cases, quantifier, collection, comprehension, selection, Trees, Alternatives, no_more, alternative, Optional, absent, present}
 use Rattle.values.specs.declared.Fault.{Fault}
-use Rattle.values.specs.declared.Fault.TheVariants.{WrongKind, TooLarge, NoCandidate, NoCase}
+use Rattle.values.specs.declared.Fault.TheVariants.{WrongKind, TooLarge, NoCase}
 use Rattle.values.specs.declared.Operand.TheVariants.{Many}
 use Rattle.values.specs.Value.{Value, number, truth, many, of, list, pack}
 use Rattle.values.specs.Lawful.{fits}
 use Rattle.values.specs.Sets.{equal}
-use Rattle.values.specs.Operators.{is, members, made, unary, binary, select, range, grown, grow}
+use Rattle.values.specs.Operators.{is, members, unary, binary, select, range, grown, grow}
 use Rattle.meaning.specs.Names.{In, same, Binding, Sight, bind, bind_all, Facts, known}
 use Rattle.meaning.specs.Parts.{numerals, numerals_all, numerals_in, numerals_of}
 use Rattle.meaning.specs.Course.{Outcome, value, fault, Course, ended, begins, chooses, ◌>>=◌}

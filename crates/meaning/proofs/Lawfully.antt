@@ -1,5 +1,5 @@
 -- Lawful facts give lawful values.
-use Rattle.std.proofs.Common.{◌≡◌, ℕ, ◌+◌, ◌^◌, ◌<◌, ◌≤◌, Bool, true, false, cond, ◌&&◌, ◌||◌, ◌⊎◌, List, [], ◌∷◌, ◌++◌, length, pos, sym, refl, ap, ◌∙◌, subst, inl, inr, arith}
+use Rattle.std.proofs.Common.{◌≡◌, ℕ, ◌+◌, ◌^◌, ◌<◌, ◌≤◌, Bool, true, false, cond, ◌||◌, ◌⊎◌, List, [], ◌∷◌, length, pos, sym, refl, ap, ◌∙◌, subst, inl, inr, arith}
 use mathlib.Core.Option.{Option, some}
 use mathlib.Core.Option as option
 use Rattle.std.proofs.lemmas.List.{length-append}
@@ -10,7 +10,7 @@ use Rattle.syntax.specs.Tree.{Place, Name, Tree}
 use Rattle.values.specs.declared.Operand.TheVariants.{Many}
 use Rattle.values.specs.Value.{Value, number, truth, many, Values, none, more, onto, ontos, cells, list, pack, of}
 use Rattle.values.specs.Lawful.{Lawful, ranged, rangeds, ordered, ordereds}
-use Rattle.values.specs.Operators.{is, members, unary, binary, select, range, grow}
+use Rattle.values.specs.Operators.{is, members}
 use Rattle.values.proofs.Laws.{onto_is}
 use Rattle.operations.proofs.Lawfuls.{lawfuls}
 use Rattle.meaning.specs.Names.{In, same, nothing, Facts, Occurrence, among, free}

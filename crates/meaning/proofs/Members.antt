@@ -1,5 +1,5 @@
 -- Quantifiers and `let be`, member by member.
-use Rattle.std.proofs.Common.{◌≡◌, ℕ, Bool, true, false, cond, not, ◌&&◌, ◌⊎◌, List, [], ◌∷◌, ◌++◌, sym, refl, ap, ◌∙◌, subst, inl, inr}
+use Rattle.std.proofs.Common.{◌≡◌, Bool, true, false, cond, not, List, [], ◌∷◌, ◌++◌, sym, refl, ap, ◌∙◌, inl, inr}
 use mathlib.Core.Bool.{beq}
 use Rattle.syntax.specs.declared.Connective.TheVariants.{Or, And}
 use Rattle.syntax.specs.declared.Quantifier.{Quantifier}
@@ -8,14 +8,13 @@ use Rattle.syntax.specs.declared.Collection.TheVariants.{Set}
 use Rattle.syntax.specs.Tree.{Place, Name, Tree}
 use Rattle.values.specs.declared.Fault.{Fault}
 use Rattle.values.specs.declared.Fault.TheVariants.{WrongKind}
-use Rattle.values.specs.declared.Operand.TheVariants.{Many}
 use Rattle.values.specs.Value.{Value, number, truth, many, of, list, pack}
-use Rattle.values.specs.Operators.{is, members}
+use Rattle.values.specs.Operators.{members}
 use Rattle.meaning.specs.Names.{In, bind, Facts, Sight}
-use Rattle.meaning.specs.Course.{Outcome, value, fault, Course, ended, begins, chooses, ◌>>=◌}
+use Rattle.meaning.specs.Course.{Outcome, value, fault, Course, ended}
 use Rattle.meaning.specs.Eval.{given, strict, Truth, holds, fails, truth_of, decides, looped, over, kept, searching, decider, candidate, testing, choice, eval}
 use Rattle.meaning.specs.Play.{Picker, outcome, begun}
-use Rattle.meaning.specs.Laws.{Side, yea, nay, other, failed, side, alone, decisive, failing, walked, Quantified, Quantifying, if_true, those, each, Chosen, Letting}
+use Rattle.meaning.specs.Laws.{side, alone, decisive, failing, walked, Quantified, Quantifying, if_true, those, each, Chosen, Letting}
 use Rattle.meaning.proofs.Plays.{outcome_bind, begun_bind}
 
 itself : (d : Bool) → beq d d ≡ true

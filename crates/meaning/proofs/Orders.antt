@@ -1,14 +1,13 @@
 -- Operators, `let` and `if`: the order of their parts.
-use Rattle.std.proofs.Common.{◌≡◌, true, false, List, [], ◌∷◌, ◌++◌, sym, refl, ap, ◌∙◌}
-use Rattle.syntax.specs.Tree.{Place, Name, Tree}
-use Rattle.values.specs.declared.Fault.{Fault}
-use Rattle.values.specs.Value.{Value, truth}
+use Rattle.std.proofs.Common.{◌≡◌, [], ◌∷◌, ◌++◌, sym, refl, ap, ◌∙◌}
+use Rattle.syntax.specs.Tree.{Place, Tree}
+use Rattle.values.specs.Value.{Value}
 use Rattle.values.specs.Operators as op
 use Rattle.meaning.specs.Names.{bind, Facts, Sight}
-use Rattle.meaning.specs.Course.{Outcome, value, fault, Course, ended, begins, chooses, ◌>>=◌}
-use Rattle.meaning.specs.Eval.{given, strict, told, truth_of, branch, fails, eval}
+use Rattle.meaning.specs.Course.{Outcome, value, fault, Course, ended}
+use Rattle.meaning.specs.Eval.{given, strict, told, truth_of, branch, eval}
 use Rattle.meaning.specs.Play.{Picker, outcome, begun}
-use Rattle.meaning.specs.Laws.{of_both, of_one, unless_fault, side, failing, Parts, Ordering}
+use Rattle.meaning.specs.Laws.{of_both, of_one, unless_fault, side, failing, Ordering}
 use Rattle.meaning.proofs.Plays.{outcome_bind, begun_bind}
 use Rattle.meaning.proofs.Members.{no_more, fails_as}
 

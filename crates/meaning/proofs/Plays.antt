@@ -1,11 +1,11 @@
 -- Courses played: what comes of one and then another, and of choices with one candidate.
-use Rattle.std.proofs.Common.{◌≡◌, ℕ, zero, suc, ◌<◌, ◌⊎◌, List, [], ◌∷◌, ◌++◌, length, get_or, sym, refl, ap, ◌∙◌, inl, inr, le_of_suc-le-suc, not-suc-le-zero}
-use Rattle.syntax.specs.Tree.{Place, Tree}
+use Rattle.std.proofs.Common.{◌≡◌, ℕ, zero, suc, ◌<◌, List, [], ◌∷◌, ◌++◌, length, get_or, sym, refl, ap, ◌∙◌, inl, inr, le_of_suc-le-suc, not-suc-le-zero}
+use Rattle.syntax.specs.Tree.{Place}
 use Rattle.values.specs.Value.{Value}
-use Rattle.meaning.specs.Names.{In, Sight, nothing, Facts}
+use Rattle.meaning.specs.Names.{In, Sight, nothing}
 use Rattle.meaning.specs.Course.{Outcome, Course, ended, begins, chooses, ◌>>=◌}
 use Rattle.meaning.specs.Eval.{eval}
-use Rattle.meaning.specs.Play.{Picker, outcome, begun, Chooser, nth, by, Assigns, Allowed}
+use Rattle.meaning.specs.Play.{Picker, outcome, begun, Chooser, nth, by, Assigns}
 use Rattle.meaning.specs.Laws.{Single, Choosing}
 
 module _ (pick : Picker) (k : Outcome → Course) where

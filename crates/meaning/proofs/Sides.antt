@@ -1,18 +1,18 @@
 -- Connectives and quantifiers: the tables, duality, and sets without members.
-use Rattle.std.proofs.Common.{◌≡◌, ℕ, Bool, true, false, cond, not, ◌&&◌, List, [], ◌∷◌, ◌++◌, sym, refl, ap, ◌∙◌}
+use Rattle.std.proofs.Common.{◌≡◌, Bool, true, false, cond, not, ◌&&◌, List, [], ◌∷◌, ◌++◌, sym, refl, ap, ◌∙◌}
 use Rattle.syntax.specs.declared.Binary.TheVariants.{Equal, NotEqual, InSet, NotInSet}
 use Rattle.syntax.specs.declared.Connective.{Connective}
 use Rattle.syntax.specs.declared.Connective.TheVariants.{Implies, Or, And}
-use Rattle.syntax.specs.declared.Quantifier.TheVariants.{Forall, Exists}
+use Rattle.syntax.specs.declared.Quantifier.TheVariants.{Exists}
 use Rattle.syntax.specs.declared.Collection.TheVariants.{Set}
-use Rattle.syntax.specs.Tree.{Place, Name, Tree}
+use Rattle.syntax.specs.Tree.{Place}
 use Rattle.values.specs.declared.Fault.{Fault}
 use Rattle.values.specs.declared.Fault.TheVariants.{WrongKind}
 use Rattle.values.specs.declared.Operand.TheVariants.{Many}
 use Rattle.values.specs.Value.{Value, number, truth, many}
 use Rattle.values.specs.Sets.{member}
 use Rattle.values.specs.Operators.{is, members, taking, answer, binary}
-use Rattle.meaning.specs.Names.{bind, Facts, Sight}
+use Rattle.meaning.specs.Names.{bind}
 use Rattle.meaning.specs.Course.{Outcome, value, fault, Course, ended, begins, chooses, ◌>>=◌}
 use Rattle.meaning.specs.Eval.{given, strict, told, Truth, holds, fails, truth_of, decides, deciding, left, joined, connect, looped, over, kept, searching, eval}
 use Rattle.meaning.specs.Play.{Picker, outcome, begun}

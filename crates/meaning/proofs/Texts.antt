@@ -1,5 +1,5 @@
 -- The worked examples on texts: the tokens are given and checked, the derivation is written out, the evaluation is computed.
-use Rattle.std.proofs.Common.{◌≡◌, ℕ, zero, suc, Bool, true, false, cond, ◌⊎◌, List, [], ◌∷◌, map, length, pos, negsuc, codes, sym, refl, ap, ◌∙◌, inl, inr, arith}
+use Rattle.std.proofs.Common.{◌≡◌, ℕ, zero, suc, Bool, true, false, cond, ◌⊎◌, List, [], ◌∷◌, pos, negsuc, codes, sym, refl, ap, ◌∙◌, inl, inr, arith}
 use mathlib.Core.Path.{fun_ext}
 use mathlib.Core.Option.{Option, none, some}
 use Rattle.syntax.specs.declared.Unary.TheVariants as un
@@ -7,11 +7,10 @@ use Rattle.syntax.specs.declared.Binary.TheVariants as bin
 use Rattle.syntax.specs.declared.Connective.TheVariants as con
 use Rattle.syntax.specs.declared.Quantifier.TheVariants as quant
 use Rattle.syntax.specs.declared.Collection.TheVariants as coll
-use Rattle.syntax.specs.Tree.{Place, Name, Pattern, Patterns, Tree, numeral, name, unary, binary, connective, let_in, let_be, cases, quantifier, collection, comprehension, selection, Trees, no_more, alternative, absent}
+use Rattle.syntax.specs.Tree.{Pattern, Patterns, Tree, numeral, name, unary, binary, connective, let_in, let_be, cases, quantifier, collection, comprehension, selection, Trees, no_more, alternative, absent}
 use Rattle.tokens.specs.declared.Mark.TheVariants as sign
 use Rattle.tokens.specs.declared.Kind.TheVariants as kind
 use Rattle.tokens.specs.declared.Token.{Token}
-use Rattle.tokens.specs.Lexeme.{lexeme}
 use Rattle.tokens.specs.Pieces.{token}
 use Rattle.grammar.specs.Grammar.{brace, bracket, d_let, d_let_be, d_cases, d_quantifier, d_connected, d_chain, d_link, d_premise, d_prefix, d_bare, d_relation, d_side, d_apply, d_select, d_atom, d_numeral, d_truth, d_name, d_paren, d_empty, d_members, d_comprehension, d_bind, d_last, d_more, d_only, d_next, p_name, p_empty, p_sequence, p_last}
 use Rattle.values.specs.declared.Fault.TheVariants.{DivisionByZero}
@@ -22,7 +21,7 @@ use Rattle.values.specs.Operators as op
 use Rattle.meaning.specs.Names.{In, same, Sight, nothing, bind, Facts, free}
 use Rattle.meaning.specs.Course.{Outcome, value, fault, Course, ended, begins, chooses}
 use Rattle.meaning.specs.Eval.{eval}
-use Rattle.meaning.specs.Play.{Picker, outcome, Chooser, nth, by, Assigns, Allowed}
+use Rattle.meaning.specs.Play.{Picker, outcome, Chooser, nth, by, Assigns}
 use Rattle.meaning.specs.Examples.{Reads, Gives, Goes, Settled, OnlyAllowed, Just, Under, document, Examples}
 use Rattle.meaning.proofs.Plays.{nth_in}
 use Rattle.meaning.proofs.Free.{facts_of, agree_all, naming}

@@ -1,16 +1,16 @@
 -- The worked examples on trees, by computation. Each is named as in the language's document.
-use Rattle.std.proofs.Common.{◌≡◌, ℕ, suc, ◌-◌, ◌<◌, true, false, List, [], ◌∷◌, pos, negsuc, codes, refl, arith}
+use Rattle.std.proofs.Common.{◌≡◌, ◌-◌, true, false, [], ◌∷◌, pos, negsuc, codes, refl, arith}
 use Rattle.syntax.specs.declared.Unary.TheVariants as un
 use Rattle.syntax.specs.declared.Binary.TheVariants as bin
 use Rattle.syntax.specs.declared.Connective.TheVariants as con
 use Rattle.syntax.specs.declared.Quantifier.TheVariants as quant
 use Rattle.syntax.specs.declared.Collection.TheVariants as coll
-use Rattle.syntax.specs.Tree.{Place, Name, Pattern, Patterns, Tree, numeral, name, unary, binary, connective, if_else, let_in, let_be, cases, quantifier, collection, range, comprehension, selection, Trees, Alternatives, no_more, alternative, Optional, absent, present}
+use Rattle.syntax.specs.Tree.{Pattern, Patterns, Tree, numeral, name, unary, binary, connective, if_else, let_in, let_be, cases, quantifier, collection, range, comprehension, selection, Trees, no_more, alternative, absent, present}
 use Rattle.values.specs.declared.Fault.TheVariants.{WrongKind, OutOfRange, DivisionByZero, TooLarge, OutOfBounds, NoCandidate, NoCase}
-use Rattle.values.specs.Value.{Value, number, truth, of}
+use Rattle.values.specs.Value.{number, truth, of}
 use Rattle.values.specs.Operators as op
 use Rattle.meaning.specs.Names.{nothing, Facts}
-use Rattle.meaning.specs.Course.{Outcome, value, fault}
+use Rattle.meaning.specs.Course.{value, fault}
 use Rattle.meaning.specs.Eval.{eval}
 use Rattle.meaning.specs.Play.{Chooser, by, outcome, begun}
 

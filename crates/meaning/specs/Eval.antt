@@ -1,5 +1,5 @@
 -- The evaluation of a tree. Each construct is defined over the courses of its parts; a part under a binding is a function of the bound value.
-use Rattle.std.specs.Prelude.{ℕ, Bool, true, false, cond, not, ◌&&◌, List, [], ◌∷◌, ◌++◌, pos, Ok, Err, Result}
+use Rattle.std.specs.Prelude.{Bool, true, false, cond, not, ◌&&◌, List, [], ◌∷◌, ◌++◌, pos, Ok, Err, Result}
 use Rattle.std.specs.Bool.{beq}
 use Rattle.std.proofs.Math.Option.{Option, none, some}
 use Rattle.syntax.specs.declared.Connective.{Connective}
@@ -8,11 +8,11 @@ use Rattle.syntax.specs.declared.Quantifier.{Quantifier}
 use Rattle.syntax.specs.declared.Quantifier.TheVariants.{Forall, Exists}
 use Rattle.syntax.specs.declared.Collection.{Collection}
 use Rattle.syntax.specs.declared.Collection.TheVariants.{Set, Sequence, Tuple}
-use Rattle.syntax.specs.Tree.{Place, Name, Pattern, any, binds, parts, Patterns, Tree, numeral, name, connective, if_else, let_in, let_be, cases, quantifier, collection, comprehension, selection, Trees, Alternatives, no_more, alternative, Optional, absent, present}
+use Rattle.syntax.specs.Tree.{Place, Pattern, any, binds, parts, Patterns, Tree, numeral, name, connective, if_else, let_in, let_be, cases, quantifier, collection, comprehension, selection, Trees, Alternatives, no_more, alternative, Optional, absent, present}
 use Rattle.values.specs.declared.Fault.{Fault}
 use Rattle.values.specs.declared.Fault.TheVariants.{WrongKind, NoCandidate, NoCase}
 use Rattle.values.specs.declared.Operand.TheVariants.{Number, Many}
-use Rattle.values.specs.Value.{Value, number, truth, many, list, of}
+use Rattle.values.specs.Value.{Value, number, truth, many, of}
 use Rattle.values.specs.Sets.{equal}
 use Rattle.values.specs.Operators.{is, members, unary, binary, select, range, grow}
 use Rattle.meaning.specs.Names.{Binding, ◌≔◌, Sight, bind, bind_all, Facts, value_of}

@@ -1,5 +1,5 @@
 -- What is made of lawful values is lawful.
-use Rattle.std.proofs.Common.{◌≡◌, ℕ, zero, suc, ◌+◌, ◌-◌, ◌/◌, ◌%◌, ◌^◌, ◌<◌, ◌≤◌, Bool, true, false, cond, not, ◌&&◌, eqb, ltb, leb, List, [], ◌∷◌, ◌++◌, length, ℤ, pos, negsuc, ◌+ℤ◌, ◌-ℤ◌, ◌*ℤ◌, neg_ℤ, nat_abs, ◌≤ℤ◌, ◌<ℤ◌, Ok, Err, Result, Ordering, Less, Equal, Greater, sym, refl, ap, ◌∙◌, subst, true≢false, mod-lt, div-le_self, arith}
+use Rattle.std.proofs.Common.{◌≡◌, ℕ, zero, suc, ◌/◌, ◌%◌, ◌^◌, ◌<◌, ◌≤◌, Bool, true, false, cond, not, ◌&&◌, eqb, List, [], ◌∷◌, ◌++◌, length, ℤ, pos, negsuc, ◌+ℤ◌, ◌-ℤ◌, ◌*ℤ◌, neg_ℤ, nat_abs, ◌<ℤ◌, Ok, Err, Result, Ordering, Less, Equal, Greater, sym, refl, ap, ◌∙◌, subst, mod-lt, div-le_self, arith}
 use native.Mathlib.Nat.{mod-le}
 use lib.IntN.{*ℤ-zero}
 use lib.Signed.{quot_z, rem_z}
@@ -14,12 +14,11 @@ use Rattle.syntax.specs.declared.Unary.TheVariants.{Not, Negate, Abs, Card, Len,
 use Rattle.syntax.specs.declared.Binary.{Binary}
 use Rattle.syntax.specs.declared.Binary.TheVariants.{Iff, Equal as Eq, NotEqual, Less as Lt, LessEqual, Greater as Gt, GreaterEqual, Subset, ProperSubset, InSet, NotInSet, Plus, Minus, Union, Difference, Concat, Times, Div, Rem, Mod, Inter, Apply}
 use Rattle.values.specs.declared.Fault.{Fault}
-use Rattle.values.specs.declared.Fault.TheVariants.{WrongKind, OutOfRange, DivisionByZero, TooLarge, OutOfBounds}
-use Rattle.values.specs.declared.Operand.{Operand}
-use Rattle.values.specs.declared.Operand.TheVariants.{Any, Number, Truth, Many}
-use Rattle.values.specs.Value.{Value, number, truth, many, Values, none, more, cells, row, of, list, pack, compare}
+use Rattle.values.specs.declared.Fault.TheVariants.{OutOfRange, DivisionByZero, TooLarge}
+use Rattle.values.specs.declared.Operand.TheVariants.{Number, Many}
+use Rattle.values.specs.Value.{Value, number, Values, none, more, cells, of, list, pack, compare}
 use Rattle.values.specs.Lawful.{Lawful, in_range, fits, ascending, is_in_order, ranged, rangeds, ordered, ordereds}
-use Rattle.values.specs.Sets.{by, member, insert, gathered, those, union, inter, difference}
+use Rattle.values.specs.Sets.{member, insert, gathered, those, union, inter, difference}
 use Rattle.values.specs.Numbers.{quotient, remainder, modulus, span, size, between}
 use Rattle.values.specs.Operators.{is, operand, left, right, takes, taking, number_of, truth_of, members, calculated, divided, made, nth, at, tail, answer, gives, results, unary, binary, select, range, grow, grown}
 use Rattle.values.proofs.Laws.{cells_of}
@@ -27,8 +26,8 @@ use Rattle.sets.proofs.Members.{sorted_insert, sorted_gathered, sorted_those, in
 use Rattle.sets.proofs.Order.{sorted_from, to_ascending}
 use Rattle.numbers.proofs.Quotients.{rem_is, neg_pos, pos_neg, same}
 use Rattle.operations.specs.Laws.{Sound, Lawfuls}
-use Rattle.operations.proofs.Sorts.{many_is, number_is, few, in_range_lem, in_order}
-use Rattle.operations.proofs.Outcomes.{nth_short, made_ok}
+use Rattle.operations.proofs.Sorts.{many_is, few, in_range_lem}
+use Rattle.operations.proofs.Outcomes.{nth_short}
 
 -- ---- a test of every value of a row
 

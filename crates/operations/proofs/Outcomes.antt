@@ -1,5 +1,5 @@
 -- What is told of a value that is made or picked.
-use Rattle.std.proofs.Common.{◌≡◌, ℕ, zero, suc, ◌+◌, ◌<◌, ◌≤◌, Bool, true, false, cond, eqb, leb, List, [], ◌∷◌, ◌++◌, length, get_or, take, ℤ, pos, nat_abs, IfOk, Ok, Err, Result, sym, refl, ap, ◌∙◌, subst, arith, MatchResult}
+use Rattle.std.proofs.Common.{◌≡◌, ℕ, zero, suc, ◌+◌, ◌<◌, ◌≤◌, Bool, true, false, cond, eqb, List, [], ◌∷◌, ◌++◌, length, get_or, take, ℤ, pos, nat_abs, IfOk, Ok, Err, Result, sym, refl, ap, ◌∙◌, subst, arith, MatchResult}
 use Rattle.std.proofs.lemmas.List.{length-take, length-append}
 use Rattle.std.proofs.lemmas.Bool.{le-leb, lt-leb, and_parts}
 use Rattle.syntax.specs.declared.Collection.{Collection}
@@ -8,8 +8,8 @@ use Rattle.syntax.specs.declared.Unary.{Unary}
 use Rattle.syntax.specs.declared.Binary.{Binary}
 use Rattle.values.specs.declared.Fault.TheVariants.{WrongKind, OutOfRange, DivisionByZero, TooLarge}
 use Rattle.values.specs.declared.Full.{Full}
-use Rattle.values.specs.Value.{Value, number, onto, cells, row, of}
-use Rattle.values.specs.Lawful.{fits, in_range}
+use Rattle.values.specs.Value.{Value, number, cells, row, of}
+use Rattle.values.specs.Lawful.{in_range}
 use Rattle.values.specs.Cells.{told, in_cells, Spared}
 use Rattle.values.specs.Operators.{made, nth, is, operand, taking, takes, left, right, gives, results, unary, binary, calculated, divided}
 use Rattle.numbers.specs.Number.{ranged, unless_zero}

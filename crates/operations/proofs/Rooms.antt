@@ -1,5 +1,5 @@
 -- What always has room: a part of a lawful value, or a set of its members.
-use Rattle.std.proofs.Common.{◌≡◌, ℕ, zero, suc, ◌+◌, ◌*◌, ◌<◌, ◌≤◌, Bool, true, false, cond, List, [], ◌∷◌, ◌++◌, length, ℤ, pos, ◌+ℤ◌, ◌-ℤ◌, Ok, Err, Result, sym, refl, ap, ◌∙◌, subst, true≢false, arith}
+use Rattle.std.proofs.Common.{◌≡◌, ℕ, zero, suc, ◌+◌, ◌*◌, ◌≤◌, Bool, true, false, cond, List, [], ◌∷◌, length, pos, ◌+ℤ◌, ◌-ℤ◌, Ok, Err, Result, sym, refl, ap, ◌∙◌, arith}
 use Rattle.std.proofs.lemmas.List.{length-append}
 use Rattle.std.proofs.lemmas.Bool.{and_parts}
 use Rattle.syntax.specs.declared.Collection.{Collection}
@@ -10,7 +10,7 @@ use Rattle.syntax.specs.declared.Binary.TheVariants.{Inter, Difference}
 use Rattle.values.specs.declared.Fault.{Fault}
 use Rattle.values.specs.declared.Fault.TheVariants.{TooLarge}
 use Rattle.values.specs.declared.Operand.TheVariants.{Many}
-use Rattle.values.specs.Value.{Value, number, truth, many, cells, onto, row, of}
+use Rattle.values.specs.Value.{Value, number, truth, many, cells, row, of}
 use Rattle.values.specs.Lawful.{Lawful}
 use Rattle.values.specs.Sets.{member, insert, gathered, those, inter, difference}
 use Rattle.values.specs.Numbers.{size, between}

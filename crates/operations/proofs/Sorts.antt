@@ -1,5 +1,5 @@
 -- The kinds of values, and what is read off their cells.
-use Rattle.std.proofs.Common.{◌≡◌, ℕ, ◌≤◌, Bool, true, false, ◌&&◌, List, [], ◌∷◌, ◌++◌, length, get_or, take, set as put_at, ℤ, pos, sym, refl, ap, ◌∙◌, subst, true≢false, arith}
+use Rattle.std.proofs.Common.{◌≡◌, ◌≤◌, Bool, true, false, ◌&&◌, List, [], ◌∷◌, length, get_or, take, set as put_at, ℤ, pos, sym, refl, ap, ◌∙◌, true≢false, arith}
 use Rattle.syntax.specs.declared.Collection.{Collection}
 use Rattle.syntax.specs.declared.Collection.TheVariants.{Set, Sequence, Tuple}
 use Rattle.values.specs.declared.Operand.{Operand}
@@ -7,7 +7,7 @@ use Rattle.values.specs.declared.Operand.TheVariants.{Any, Number, Truth, Many}
 use Rattle.values.specs.Value.{Value, number, truth, many, Values, none, more, bit, cells, row, of, list, pack}
 use Rattle.std.proofs.lemmas.List.{length-append}
 use Rattle.values.specs.Cells.{begins}
-use Rattle.values.specs.Lawful.{Lawful, in_range, ranged, ascending, ordered, ordereds}
+use Rattle.values.specs.Lawful.{Lawful, in_range, ranged, ascending, ordereds}
 use Rattle.values.specs.Operators.{is, number_of, truth_of, members}
 use Rattle.values.proofs.Laws.{cells_of, onto_is, some_cells}
 use Rattle.operations.specs.Fit.{is_true}

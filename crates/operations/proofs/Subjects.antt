@@ -1,5 +1,5 @@
 -- The laws of numbers, intervals, sequences and their sets; and what always has room.
-use Rattle.std.proofs.Common.{◌≡◌, ℕ, zero, suc, ◌+◌, ◌<◌, ◌≤◌, Bool, true, false, cond, ◌&&◌, ◌||◌, List, [], ◌∷◌, ◌++◌, length, ℤ, pos, negsuc, ◌+ℤ◌, ◌-ℤ◌, ◌*ℤ◌, ◌≤ℤ◌, ◌<ℤ◌, Ordering, Less, Equal, Greater, sym, refl, ap, ◌∙◌, true≢false, arith}
+use Rattle.std.proofs.Common.{◌≡◌, ℕ, zero, suc, ◌+◌, ◌≤◌, Bool, true, false, ◌&&◌, ◌||◌, List, [], ◌∷◌, ◌++◌, length, ℤ, pos, negsuc, ◌+ℤ◌, ◌-ℤ◌, ◌*ℤ◌, ◌<ℤ◌, Ordering, Less, Equal, Greater, sym, refl, ap, ◌∙◌, true≢false, arith}
 use lib.Signed.{lt_z, le_z}
 use Rattle.std.proofs.lemmas.List.{length-append}
 use Rattle.std.proofs.lemmas.Int.{ints}
@@ -7,7 +7,7 @@ use Rattle.std.specs.Ordering.{is_eq, ordering_then, MatchOrdering, int_cmp}
 use Rattle.std.specs.Cmp.{int_ranks}
 use Rattle.syntax.specs.declared.Collection.TheVariants.{Set, Sequence, Tuple}
 use Rattle.values.specs.declared.Operand.TheVariants.{Number}
-use Rattle.values.specs.Value.{Value, number, truth, many, compare, cells, row, of}
+use Rattle.values.specs.Value.{Value, number, truth, many, compare}
 use Rattle.values.specs.Sets.{equal, member, insert, gathered, union}
 use Rattle.values.specs.Numbers.{quotient, remainder, span, size, between}
 use Rattle.values.specs.Operators.{is}

@@ -1,14 +1,13 @@
 -- From tokens and tree to the promises of `read`.
-use Rattle.std.proofs.Common.{◌≡◌, ℕ, suc, ◌-◌, ◌<◌, ◌≤◌, ◌⊎◌, List, [], ◌∷◌, ◌++◌, map, length, drop, replicate, Some, None, Ok, Err, Option, Result, sym, refl, ap, ◌∙◌, subst, inl, inr, arith}
+use Rattle.std.proofs.Common.{◌≡◌, ℕ, suc, ◌≤◌, List, [], ◌∷◌, ◌++◌, map, length, drop, Some, None, Ok, Err, Option, sym, refl, ap, ◌∙◌, subst, inl, inr, arith}
 use Rattle.syntax.specs.Tree.{Tree}
 use Rattle.tables.specs.declared.Table.{Table}
-use Rattle.tables.specs.Items.{items, spare}
+use Rattle.tables.specs.Items.{items}
 use Rattle.tokens.specs.declared.Token.{Token}
-use Rattle.tokens.specs.declared.Refusal.{Refusal as TokenRefusal}
 use Rattle.tokens.specs.declared.Refusal.TheVariants as token
 use Rattle.tokens.specs.Lexeme.{Lexeme, lexeme}
 use Rattle.tokens.specs.Pieces.{Cut, at_end, at_separator, at_comment, at_token, at_bad}
-use Rattle.tokens.specs.Cutting.{Answers, CutInto, Tokenised}
+use Rattle.tokens.specs.Cutting.{Answers, CutInto}
 use Rattle.tokens.proofs.Forms.{longest_some}
 use Rattle.tokens.proofs.Unique.{one_cutting}
 use Rattle.std.proofs.lemmas.List.{length-map}
@@ -19,7 +18,7 @@ use Rattle.grammar.specs.Steps.{first}
 use Rattle.grammar.specs.Sentences.{Accepted, Refused}
 use Rattle.reading.specs.declared.call.Refusal.{Refusal}
 use Rattle.reading.specs.declared.call.Refusal.TheVariants.{NoToken}
-use Rattle.reading.specs.Reading.{told, place_or, Sentence, BadPlace, BadToken, Denied}
+use Rattle.reading.specs.Reading.{told, place_or, Sentence, Denied}
 
 module _ (text : List ℕ) (ts : List Token) (cut : Cut 0 text ts None) where
   derives : (u : Tree) → Sentence text u → Derives Sort.expr (map (lexeme text) ts) u

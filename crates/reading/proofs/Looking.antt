@@ -1,8 +1,8 @@
 -- From a token to what the reader sees.
-use Rattle.std.proofs.Common.{◌≡◌, ℕ, ◌+◌, ◌<◌, ◌≤◌, Bool, true, false, cond, ◌||◌, List, [], ◌∷◌, map, length, get_or, drop, Some, None, Option, sym, refl, ap, ◌∙◌, subst, not-suc-le-zero, arith, length-drop, MatchOption}
+use Rattle.std.proofs.Common.{◌≡◌, ℕ, ◌+◌, ◌<◌, ◌≤◌, true, false, cond, ◌||◌, List, [], ◌∷◌, map, length, get_or, Some, None, Option, sym, refl, ap, ◌∙◌, subst, not-suc-le-zero, arith, length-drop}
 use Rattle.std.proofs.lemmas.List.{drop_more, drop-map, drop_all, length-map}
 use Rattle.tokens.specs.declared.Token.{Token}
-use Rattle.tokens.specs.Lexeme.{Symbol, Lexeme, symbol, lexeme}
+use Rattle.tokens.specs.Lexeme.{Symbol, Lexeme, lexeme}
 use Rattle.std.proofs.lemmas.Bool.{or_left, or_right, or_from}
 use Rattle.tokens.specs.declared.Mark.{Mark}
 use Rattle.tokens.specs.declared.Mark.TheVariants as sign

@@ -1,10 +1,10 @@
 -- How far a function has followed its program, and how it ends.
-use Rattle.std.proofs.Common.{◌≡◌, ℕ, ◌+◌, ◌<◌, ◌≤◌, Bool, true, false, List, [], ◌∷◌, ◌++◌, length, Some, None, Ok, Err, Option, sym, refl, ap, ◌∙◌, subst, arith, length-append}
+use Rattle.std.proofs.Common.{◌≡◌, ℕ, ◌+◌, ◌<◌, ◌≤◌, Bool, true, false, List, [], ◌∷◌, ◌++◌, length, Ok, Err, sym, refl, ap, ◌∙◌, subst, arith, length-append}
 use Rattle.std.specs.declared.result.Result as result
 use Rattle.tables.specs.declared.Table.{Table}
 use Rattle.tables.specs.Items.{items, room}
 use Rattle.tokens.specs.Lexeme.{Lexeme}
-use Rattle.grammar.specs.Steps.{Test, Job, Result, Prog, ret, on, want, ahead, call, Out, out, first, second, Hits, Misses, body, Run, r_ret, r_on, r_off, r_want, r_refuse, r_both, r_only, r_none, r_call, r_fails}
+use Rattle.grammar.specs.Steps.{Test, Job, Result, Prog, ret, on, want, ahead, call, Out, first, second, Hits, Misses, body, Run, r_ret, r_on, r_off, r_want, r_refuse, r_both, r_only, r_none, r_call, r_fails}
 use Rattle.reading.specs.declared.entry.Entry.{Entry}
 use Rattle.reading.specs.declared.source.Source.{Source}
 use Rattle.reading.specs.Entries.{Extends}

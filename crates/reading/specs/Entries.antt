@@ -1,5 +1,5 @@
 -- A tree in a table: which entries hold it.
-use Rattle.std.specs.Prelude.{◌≡◌, ℕ, ◌<◌, Bool, List, [], ◌∷◌, ◌++◌, length, take, drop, Some, None, Option, slice_index_or}
+use Rattle.std.specs.Prelude.{◌≡◌, ℕ, ◌<◌, List, ◌++◌, length, take, drop, Some, None, Option, slice_index_or}
 use Rattle.tokens.specs.Lexeme.{decimal}
 use Rattle.syntax.specs.Tree.{Name, Pattern, Patterns, Tree, Trees, Alternatives, Optional}
 use Rattle.grammar.specs.Grammar.{Operation}

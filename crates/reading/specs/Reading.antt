@@ -1,5 +1,5 @@
 -- What `read` promises.
-use Rattle.std.specs.Prelude.{◌≡◌, ℕ, ◌+◌, ◌-◌, ◌<◌, ◌≤◌, ◌⊎◌, List, [], ◌∷◌, ◌++◌, map, length, drop, replicate, Some, None, Ok, Err, Option, Result}
+use Rattle.std.specs.Prelude.{◌≡◌, ℕ, ◌+◌, ◌-◌, ◌<◌, ◌≤◌, ◌⊎◌, List, ◌++◌, map, length, drop, replicate, Some, None, Ok, Err, Option, Result}
 use Rattle.syntax.specs.declared.Refused.{Refused}
 use Rattle.syntax.specs.Tree.{Tree}
 use Rattle.tables.specs.declared.Table.{Table}

@@ -1,5 +1,5 @@
 -- The grammar's levels and operations, as the code names them.
-use Rattle.std.specs.Prelude.{◌≡◌, ℕ, Bool, true, false, List, Option, MatchOption}
+use Rattle.std.specs.Prelude.{◌≡◌, ℕ, true, false, List, Option, MatchOption}
 use Rattle.tokens.specs.declared.Kind.{Kind}
 use Rattle.tokens.specs.Lexeme.{Symbol, symbol}
 use Rattle.grammar.specs.Grammar as grammar

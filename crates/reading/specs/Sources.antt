@@ -1,13 +1,11 @@
 -- What the reader's functions promise: each follows its program over the tokens.
-use Rattle.std.specs.Prelude.{◌≡◌, ℕ, ◌+◌, ◌<◌, ◌≤◌, Bool, true, false, List, [], ◌∷◌, ◌++◌, map, length, drop, Some, None, Ok, Err, Option, Result}
+use Rattle.std.specs.Prelude.{◌≡◌, ℕ, ◌+◌, ◌<◌, ◌≤◌, Bool, true, false, List, [], ◌∷◌, map, length, drop, Some, None, Ok, Err, Option, Result}
 use Rattle.tables.specs.declared.Table.{Table}
 use Rattle.tables.specs.Items.{items, room}
-use Rattle.tokens.specs.declared.Mark.{Mark}
 use Rattle.tokens.specs.declared.Mark.TheVariants as sign
 use Rattle.tokens.specs.declared.Kind.{Kind}
 use Rattle.tokens.specs.declared.Token.{Token}
-use Rattle.tokens.specs.Lexeme.{Symbol, Lexeme, symbol, lexeme}
-use Rattle.syntax.specs.declared.Collection.{Collection}
+use Rattle.tokens.specs.Lexeme.{Lexeme, symbol, lexeme}
 use Rattle.syntax.specs.declared.Quantifier.{Quantifier}
 use Rattle.syntax.specs.Tree.{Tree, Trees, Pattern, Patterns}
 use Rattle.grammar.specs.Steps as steps

@@ -2,14 +2,14 @@
 use Rattle.std.proofs.Common.{◌≡◌, ℕ, zero, suc, ◌+◌, ◌-◌, ◌*◌, ◌<◌, ◌≤◌, ◌⊎◌, List, [], ◌∷◌, ◌++◌, length, get_or, take, drop, set as put_at, ℤ, pos, negsuc, ◌+ℤ◌, ◌-ℤ◌, nat_abs, ◌≤ℤ◌, ◌<ℤ◌, Ok, Err, sym, refl, ap, ◌∙◌, inl, inr, zero-add, arith}
 use Rattle.std.proofs.lemmas.List.{length-append, append_assoc}
 use Rattle.syntax.specs.declared.Collection.{Collection}
-use Rattle.syntax.specs.declared.Collection.TheVariants.{Sequence, Set}
+use Rattle.syntax.specs.declared.Collection.TheVariants.{Set}
 use Rattle.values.specs.Value.{Value, number, code, onto, cells, row, of, within, past, front}
 use Rattle.values.specs.Numbers.{span, size}
 use Rattle.sequences.specs.Count.{counted, width}
 use Rattle.values.specs.declared.Fault.TheVariants.{OutOfBounds}
 use Rattle.values.specs.Operators.{nth}
 use Rattle.std.proofs.lemmas.Int.{ints}
-use Rattle.values.proofs.Laws.{past_first, front_first, onto-append, onto_is, cells_of}
+use Rattle.values.proofs.Laws.{past_first, front_first, onto-append, cells_of}
 
 past_eq : {m n : ℕ} (xs : List ℤ) → m ≡ n → past m xs ≡ past n xs
 past_eq xs e = ap (λ k. past k xs) e

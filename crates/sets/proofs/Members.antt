@@ -1,16 +1,16 @@
 -- Sets in the words of membership.
-use Rattle.std.proofs.Common.{◌≡◌, ◌+◌, Bool, true, false, cond, not, ◌&&◌, ◌||◌, List, [], ◌∷◌, ◌++◌, length, Ordering, Less, Equal, Greater, sym, refl, ap, ◌∙◌, subst, true≢false, arith}
-use mathlib.Core.Bool.{or-false, or_assoc, or_comm, and-true, and-false}
+use Rattle.std.proofs.Common.{◌≡◌, Bool, true, false, cond, not, ◌&&◌, ◌||◌, List, [], ◌∷◌, ◌++◌, length, Ordering, Less, Equal, Greater, sym, refl, ap, ◌∙◌, subst, true≢false, arith}
+use mathlib.Core.Bool.{or-false, and-false}
 use Rattle.std.proofs.lemmas.List.{length-append}
-use Rattle.std.specs.Ordering.{ordering_reverse, is_eq, is_lt}
-use Rattle.values.specs.Value.{Value, cells, compare}
+use Rattle.std.specs.Ordering.{is_eq}
+use Rattle.values.specs.Value.{Value, compare}
 use Rattle.values.specs.Lawful.{ascending}
 use Rattle.values.specs.Sets.{by, equal, member, every, insert, gathered, those, union, inter, difference}
 use Rattle.sets.specs.declared.Blend.{Blend}
 use Rattle.sets.specs.declared.Blend.TheVariants.{Union, Inter, Difference}
 use Rattle.sets.specs.Walk.{blended, keeps, put, all, merge}
 use Rattle.sets.specs.Laws.{Order, Alike, Membership}
-use Rattle.sets.proofs.Order.{same, itself, flips, chains, alike, apart, Above, Sorted, above_less, sorted_from, to_ascending, flip_greater, not_in, equal_of, and_left, and_right, stays, members, ascends}
+use Rattle.sets.proofs.Order.{same, itself, flips, chains, apart, Above, Sorted, above_less, sorted_from, to_ascending, flip_greater, not_in, equal_of, and_left, and_right, stays, members, ascends}
 
 -- ---- a set is known by its members
 

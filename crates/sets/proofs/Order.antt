@@ -2,12 +2,12 @@
 use Rattle.std.proofs.Common.{◌≡◌, Bool, true, false, ◌&&◌, ◌||◌, List, [], ◌∷◌, ◌++◌, ℤ, ◌<ℤ◌, Ordering, Less, Equal, Greater, sym, refl, ap, ◌∙◌, true≢false}
 use Rattle.std.specs.Ordering.{ordering_reverse, is_eq, is_lt, is_gt, ordering_then, MatchOrdering, int_cmp}
 use Rattle.std.specs.Cmp.{int_cmp_total, int_ranks}
-use Rattle.std.specs.Cmp.Lexicographic.{slice_cmp, lists_total}
-use Rattle.values.specs.Value.{Value, cells, onto, by_cells, compare}
-use Rattle.values.specs.Sets.{by, equal, member}
+use Rattle.std.specs.Cmp.Lexicographic.{lists_total}
+use Rattle.values.specs.Value.{Value, cells, by_cells, compare}
+use Rattle.values.specs.Sets.{by, member}
 use Rattle.values.proofs.Laws.{onto_is, onto_inj}
 use Rattle.values.specs.Lawful.{ascending}
-use Rattle.sets.specs.Walk.{put, all, beside, merge}
+use Rattle.sets.specs.Walk.{put, all, merge}
 
 -- whether a member stays, by the sets that have it
 abbrev pub stays : (Ordering → Bool) → Bool → Bool → Bool

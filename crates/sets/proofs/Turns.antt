@@ -5,9 +5,9 @@ use Rattle.std.proofs.lemmas.List.{append_assoc, length-append, length-take-le}
 use Rattle.std.specs.Ordering.{is_le, is_ge}
 use Rattle.syntax.specs.declared.Collection.TheVariants.{Set}
 use Rattle.sets.specs.declared.Blend.{Blend}
-use Rattle.values.specs.Value.{Value, of, onto, cells, row, past, front, within, by_cells, compare}
+use Rattle.values.specs.Value.{Value, of, cells, row, past, front, within, by_cells, compare}
 use Rattle.values.specs.Sets.{by}
-use Rattle.sets.specs.Walk.{put, all, beside, merge, side, keeps, taken}
+use Rattle.sets.specs.Walk.{put, merge, side, keeps, taken}
 use Rattle.values.proofs.Laws.{cells_of, onto_is, past_first, front_first, some_cells}
 
 -- a pass never adds cells, and takes one where there is one

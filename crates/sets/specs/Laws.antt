@@ -1,10 +1,10 @@
 -- The order of values, and sets in the words of membership.
-use Rattle.std.specs.Prelude.{◌≡◌, Bool, true, false, not, ◌&&◌, ◌||◌, List, [], ◌∷◌, ◌++◌, ℤ}
+use Rattle.std.specs.Prelude.{◌≡◌, true, not, ◌&&◌, ◌||◌, List, [], ◌++◌, ℤ}
 use Rattle.std.specs.declared.cmp.Ordering.TheVariants.{Less, Equal}
 use Rattle.std.specs.Ordering.{ordering_reverse}
 use Rattle.values.specs.Value.{Value, cells, compare}
 use Rattle.values.specs.Lawful.{ascending}
-use Rattle.values.specs.Sets.{equal, member, every, insert, gathered, union, inter, difference}
+use Rattle.values.specs.Sets.{member, every, gathered, union, inter, difference}
 
 pub record Order : Type 0 where
   -- no value's cells begin another's

@@ -1,10 +1,10 @@
 -- One walk through two rows of members.
-use Rattle.std.specs.Prelude.{◌≡◌, ℕ, Bool, true, false, cond, List, [], ◌∷◌, ◌++◌, length, ℤ}
+use Rattle.std.specs.Prelude.{◌≡◌, Bool, true, false, cond, List, [], ◌∷◌, ◌++◌, length, ℤ}
 use Rattle.std.specs.declared.cmp.Ordering.TheVariants.{Less, Equal, Greater}
 use Rattle.std.specs.declared.cmp.Ordering.{Ordering}
 use Rattle.std.specs.Ordering.{is_eq, is_lt}
-use Rattle.values.specs.Value.{Value, compare, by_cells, front, row}
-use Rattle.values.specs.Sets.{by, insert, union, inter, difference}
+use Rattle.values.specs.Value.{Value, compare, by_cells, row}
+use Rattle.values.specs.Sets.{by, union, inter, difference}
 use Rattle.sets.specs.declared.Blend.{Blend}
 use Rattle.sets.specs.declared.Blend.TheVariants.{Union, Inter, Difference}
 use Rattle.sets.specs.declared.Place.{Place}

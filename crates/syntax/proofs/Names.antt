@@ -1,5 +1,5 @@
 -- Members of lists, and names among others.
-use Rattle.std.proofs.Common.{◌≡◌, Bool, true, false, ◌&&◌, ◌||◌, eqb, ◌⊎◌, List, [], ◌∷◌, ◌++◌, Decides, sym, refl, ap, ◌∙◌, subst, inl, inr, true≢false, eq-eqb}
+use Rattle.std.proofs.Common.{◌≡◌, Bool, true, false, ◌||◌, ◌⊎◌, List, [], ◌∷◌, ◌++◌, Decides, sym, refl, ap, inl, inr, true≢false}
 use Rattle.std.proofs.lemmas.Slice.Eq.{compares_Decides}
 use Rattle.syntax.specs.Tree.{Name}
 use Rattle.syntax.specs.Names.{In, same, among}

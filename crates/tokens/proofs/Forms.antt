@@ -1,5 +1,5 @@
 -- The longest form in front of a text, by the text's first byte.
-use Rattle.std.proofs.Common.{◌≡◌, ℕ, zero, suc, ◌<◌, ◌≤◌, Bool, true, false, not, ◌&&◌, ◌||◌, eqb, ◌⊎◌, List, [], ◌∷◌, length, get_or, take, sym, refl, ap, ◌∙◌, subst, inl, inr, ⊎_elim, le_of_suc-le-suc, not-suc-le-zero, arith}
+use Rattle.std.proofs.Common.{◌≡◌, ℕ, zero, suc, ◌<◌, ◌≤◌, Bool, true, false, not, eqb, List, [], ◌∷◌, length, get_or, take, sym, refl, ap, ◌∙◌, subst, inl, inr, ⊎_elim, le_of_suc-le-suc, not-suc-le-zero, arith}
 use Rattle.std.proofs.lemmas.List.{get_or-take, length-take, length-take-le, get_or_past}
 use Rattle.std.proofs.lemmas.Bool.{and_parts, and_from, or_left, or_right, both_ways, cases_lt, cases_order, cases_Bool, eqb-true, not-false}
 use Rattle.std.proofs.lemmas.Bool.Decides.{nat_tests}
@@ -7,10 +7,10 @@ use Rattle.tokens.specs.declared.Mark.{Mark}
 use Rattle.tokens.specs.declared.Kind.{Kind}
 use Rattle.tokens.specs.declared.Kind.TheVariants as kind
 use Rattle.tokens.specs.Spelling.{spelling}
-use Rattle.tokens.specs.Pieces.{separates, letter, digit, word_byte, every, word, digits, Name, Spells, Formed, Longest, OpensComment, Comment, Begins, Bad}
+use Rattle.tokens.specs.Pieces.{separates, letter, digit, word_byte, every, word, digits, Spells, Formed, Longest, OpensComment, Begins, Bad}
 use Rattle.tokens.specs.Lookup.{Sign, Front, NoSign, LongestSign}
 use Rattle.tokens.specs.Cutting.{Run, NameRule, NoRun, Skipped}
-use Rattle.tokens.proofs.Listed.{first, some, no_digit, no_separator, is_word, same_spelling}
+use Rattle.tokens.proofs.Listed.{first, some, no_digit, is_word}
 
 -- which first bytes exclude each other
 letter_word : (b : ℕ) → letter b ≡ true → word_byte b ≡ true

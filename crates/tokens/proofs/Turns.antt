@@ -1,12 +1,12 @@
 -- What one turn of the tokeniser keeps.
-use Rattle.std.proofs.Common.{◌≡◌, ℕ, ◌+◌, ◌<◌, ◌≤◌, true, ◌⊎◌, List, [], ◌∷◌, ◌++◌, length, get_or, drop, Some, None, Option, Result, sym, refl, ap, ◌∙◌, subst, inl, inr, ⊎_elim, append_assoc, append-nil, arith, length-append, length-drop}
+use Rattle.std.proofs.Common.{◌≡◌, ℕ, ◌+◌, ◌<◌, ◌≤◌, true, List, [], ◌∷◌, ◌++◌, length, get_or, drop, Some, None, Option, Result, sym, refl, ap, ◌∙◌, subst, inl, inr, ⊎_elim, append_assoc, append-nil, arith, length-append, length-drop}
 use Rattle.std.proofs.lemmas.List.{drop_more, drop-drop, drop_all}
 use Rattle.std.proofs.lemmas.Bool.{cases_lt}
 use Rattle.tables.specs.declared.Table.{Table}
 use Rattle.tables.specs.Items.{items, spare}
 use Rattle.tokens.specs.declared.Kind.{Kind}
 use Rattle.tokens.specs.declared.Token.{Token}
-use Rattle.tokens.specs.Pieces.{separates, token, Comment, Begins, Bad, Cut, at_end, at_separator, at_comment, at_token, at_bad}
+use Rattle.tokens.specs.Pieces.{separates, token, Begins, Bad, Cut, at_end, at_separator, at_comment, at_token, at_bad}
 use Rattle.tokens.specs.declared.Refusal.{Refusal}
 use Rattle.tokens.specs.Cutting.{Skipped, Answers, Tokenised}
 use Rattle.tokens.proofs.Forms.{longest_some, opens_first}

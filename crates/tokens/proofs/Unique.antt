@@ -1,14 +1,13 @@
 -- A text has one cutting only.
-use Rattle.std.proofs.Common.{◌≡◌, ℕ, ◌+◌, ◌<◌, ◌≤◌, Bool, true, false, not, eqb, ◌⊎◌, List, [], ◌∷◌, length, get_or, take, drop, Some, None, Option, sym, refl, ap, ◌∙◌, subst, inl, inr, ⊎_elim, not-suc-le-zero, arith}
+use Rattle.std.proofs.Common.{◌≡◌, ℕ, ◌+◌, ◌<◌, true, not, eqb, List, [], ◌∷◌, length, get_or, take, drop, Option, sym, refl, ap, ◌∙◌, subst, inl, inr, ⊎_elim, not-suc-le-zero, arith}
 use Rattle.std.proofs.lemmas.List.{get_or-take, length-take-le}
 use Rattle.std.proofs.lemmas.Bool.{both_ways, cases_order}
 use Rattle.tokens.specs.declared.Kind.{Kind}
 use Rattle.tokens.specs.declared.Kind.TheVariants as kind
 use Rattle.tokens.specs.declared.Token.{Token}
-use Rattle.tokens.specs.Spelling.{spelling}
-use Rattle.tokens.specs.Pieces.{separates, letter, digit, Spells, Formed, Longest, OpensComment, Comment, Begins, Bad, token, Cut, at_end, at_separator, at_comment, at_token, at_bad}
+use Rattle.tokens.specs.Pieces.{separates, digit, Spells, Formed, Longest, OpensComment, Comment, Begins, token, Cut, at_end, at_separator, at_comment, at_token, at_bad}
 use Rattle.tokens.proofs.Listed.{first, no_digit, no_separator, same_spelling}
-use Rattle.tokens.proofs.Forms.{every_at, word_first, digits_first, letter_no_digit, letter_no_separator, digit_no_separator, formed_some, longest_some, same_longest, opens_first}
+use Rattle.tokens.proofs.Forms.{every_at, word_first, digits_first, letter_no_digit, letter_no_separator, digit_no_separator, longest_some, same_longest, opens_first}
 
 -- one spelling, one kind
 same_kind : (k l : Kind) (w : List ℕ) → Spells k w → Spells l w → k ≡ l

@@ -1,5 +1,5 @@
 -- What the tokeniser's functions promise.
-use Rattle.std.specs.Prelude.{◌≡◌, ℕ, ◌+◌, ◌<◌, ◌≤◌, Bool, true, false, not, ◌⊎◌, List, [], ◌∷◌, ◌++◌, length, take, drop, Some, None, Ok, Err, codes, Option, Result, ◌==◌, slice_index}
+use Rattle.std.specs.Prelude.{◌≡◌, ℕ, ◌<◌, ◌≤◌, Bool, true, false, not, ◌⊎◌, List, ◌++◌, length, take, drop, Some, None, Ok, Err, codes, Option, Result, ◌==◌, slice_index}
 use Rattle.tables.specs.declared.Table.{Table}
 use Rattle.tables.specs.Items.{items, spare}
 use Rattle.tokens.specs.declared.Token.{Token}

@@ -1,5 +1,5 @@
 -- The numbers and places of the tokeniser's refusals.
-use Rattle.std.specs.Prelude.{◌≡◌, ℕ, Some, None, Option}
+use Rattle.std.specs.Prelude.{Some, None}
 use Rattle.syntax.specs.declared.Refused.{Refused}
 use Rattle.tokens.specs.declared.Refusal.{Refusal}
 use Rattle.tokens.specs.declared.Refusal.TheVariants.{TooLong, NoToken}

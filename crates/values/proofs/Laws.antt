@@ -1,9 +1,9 @@
 -- Laws of the cells of a value.
-use Rattle.std.proofs.Common.{◌≡◌, ℕ, zero, suc, ◌+◌, ◌-◌, ◌<◌, ◌≤◌, Bool, true, false, List, [], ◌∷◌, ◌++◌, length, get_or, take, drop, ℤ, pos, negsuc, sym, refl, ap, ◌∙◌, add_assoc, zero-add, arith}
+use Rattle.std.proofs.Common.{◌≡◌, ℕ, zero, suc, ◌+◌, ◌-◌, ◌<◌, ◌≤◌, Bool, true, false, List, [], ◌∷◌, ◌++◌, length, get_or, take, drop, ℤ, pos, sym, refl, ap, ◌∙◌, zero-add, arith}
 use Rattle.std.proofs.lemmas.List.{drop_more, length-append, take_at}
 use Rattle.syntax.specs.declared.Collection.{Collection}
 use Rattle.syntax.specs.declared.Collection.TheVariants.{Set, Sequence, Tuple}
-use Rattle.values.specs.Value.{Value, number, truth, many, Values, none, more, code, bit, count, onto, ontos, cells, list, pack, row, of, within, past, front}
+use Rattle.values.specs.Value.{Value, number, truth, many, Values, none, more, code, bit, count, onto, ontos, cells, pack, row, of, within, past, front}
 
 within_code : (k : Collection) (n : ℕ) → within (code k) (pos n) ≡ n
 within_code Set n = refl

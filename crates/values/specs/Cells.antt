@@ -1,5 +1,5 @@
 -- What is read off cells, and how a call tells a value by cells.
-use Rattle.std.specs.Prelude.{◌≡◌, ℕ, Bool, true, false, List, [], ◌∷◌, take, ℤ, pos, negsuc, Ok, Err, Result, ◌==◌, ◌≢◌}
+use Rattle.std.specs.Prelude.{◌≡◌, ℕ, Bool, true, false, List, take, ℤ, pos, negsuc, Ok, Err, Result, ◌==◌, ◌≢◌}
 use Rattle.syntax.specs.declared.Collection.TheVariants.{Set, Sequence, Tuple}
 use Rattle.values.specs.declared.Fault.{Fault}
 use Rattle.values.specs.declared.Fault.TheVariants.{TooLarge}

@@ -1,9 +1,9 @@
 -- Examples, by computation.
-use Rattle.std.specs.Prelude.{◌≡◌, ℕ, ◌≤◌, Bool, true, false, List, [], ◌∷◌, ℤ, pos, negsuc, Ok, Err, Result, refl}
+use Rattle.std.specs.Prelude.{◌≡◌, ℕ, true, [], ◌∷◌, pos, negsuc, Ok, Err, refl}
 use Rattle.std.specs.declared.cmp.Ordering.TheVariants.{Less}
 use Rattle.syntax.specs.declared.Collection.TheVariants.{Set, Sequence, Tuple}
-use Rattle.syntax.specs.declared.Unary.TheVariants.{Not, Negate, Abs, Card, Len, Hd, Tl, Elems, Inds}
-use Rattle.syntax.specs.declared.Binary.TheVariants.{Iff, Equal, NotEqual, InSet, Plus, Union, Difference, Concat, Div, Rem, Mod, Apply}
+use Rattle.syntax.specs.declared.Unary.TheVariants.{Not, Hd, Tl, Elems, Inds}
+use Rattle.syntax.specs.declared.Binary.TheVariants.{Plus, Union, Difference, Div, Rem, Mod, Apply}
 use Rattle.values.specs.declared.Fault.TheVariants.{WrongKind, OutOfRange, DivisionByZero, TooLarge, OutOfBounds}
 use Rattle.values.specs.Value.{Value, number, truth, of, compare}
 use Rattle.values.specs.Lawful.{ordered}

@@ -1,5 +1,5 @@
 -- Which values are lawful: numbers in range, sets in order, and not too long.
-use Rattle.std.specs.Prelude.{◌≡◌, ℕ, ◌^◌, ◌≤◌, Bool, true, false, ◌&&◌, List, [], ◌∷◌, length, ℤ, nat_le, nat_lt, unsigned_abs}
+use Rattle.std.specs.Prelude.{◌≡◌, ◌^◌, ◌≤◌, Bool, true, ◌&&◌, List, [], ◌∷◌, length, ℤ, nat_le, nat_lt, unsigned_abs}
 use Rattle.std.specs.Ordering.{is_lt}
 use Rattle.syntax.specs.declared.Collection.{Collection}
 use Rattle.syntax.specs.declared.Collection.TheVariants.{Set, Sequence, Tuple}

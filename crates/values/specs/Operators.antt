@@ -11,7 +11,7 @@ use Rattle.values.specs.declared.Fault.{Fault}
 use Rattle.values.specs.declared.Fault.TheVariants.{WrongKind, OutOfRange, DivisionByZero, TooLarge, OutOfBounds}
 use Rattle.values.specs.declared.Operand.{Operand}
 use Rattle.values.specs.declared.Operand.TheVariants.{Any, Number, Truth, Many}
-use Rattle.values.specs.Value.{Value, number, truth, many, Values, none, more, list, of}
+use Rattle.values.specs.Value.{Value, number, truth, many, list, of}
 use Rattle.values.specs.Lawful.{in_range, fits}
 use Rattle.values.specs.Sets.{equal, member, every, insert, gathered, union, inter, difference}
 use Rattle.values.specs.Numbers.{quotient, remainder, modulus, between}

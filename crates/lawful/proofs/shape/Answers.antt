@@ -1,4 +1,4 @@
-use Rattle.std.proofs.Common.{◌≡◌, ℕ, ◌+◌, ◌-◌, ◌<◌, ◌≤◌, Bool, true, false, ◌&&◌, eqb, ◌⊎◌, length, get_or, drop, ℤ, pos, sym, refl, ap, ◌∙◌, inl, inr, arith, w32, SFits, rules, eq-eqb, ne_eqb}
+use Rattle.std.proofs.Common.{◌≡◌, ◌+◌, ◌-◌, ◌<◌, ◌≤◌, ◌&&◌, ◌⊎◌, length, get_or, drop, pos, sym, refl, ap, ◌∙◌, inl, inr, arith, w32, SFits, rules, ne_eqb}
 use Rattle.std.proofs.lemmas.Int.{to_z-of_z}
 use Rattle.values.specs.Value.{within}
 use Rattle.lawful.specs.Shape.{shape, valid}

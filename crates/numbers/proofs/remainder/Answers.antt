@@ -1,5 +1,4 @@
-use Rattle.std.proofs.Common.{◌≡◌, ◌∙◌, w32, SFits, to_z, of_z, rules}
-use lib.Signed.{rem_z}
+use Rattle.std.proofs.Common.{w32, SFits, rules}
 use Rattle.std.proofs.lemmas.Int.{to_z-of_z}
 use Rattle.numbers.proofs.Quotients.{rem_is, rem_fits}
 use Rattle.numbers.proofs.remainder.Goals as goal

@@ -1,4 +1,4 @@
-use Rattle.std.proofs.Common.{◌≡◌, false, List, ℤ, pos, negsuc, nat_abs, sym, refl, ap, ◌∙◌, true≢false, rules}
+use Rattle.std.proofs.Common.{◌≡◌, false, List, ℤ, pos, negsuc, nat_abs, refl, ap, ◌∙◌, true≢false}
 use lib.Signed.{lt_z}
 use Rattle.std.proofs.lemmas.Int.{to_z-of_z}
 use Rattle.values.specs.Value.{Value}

@@ -1,4 +1,4 @@
-use Rattle.std.proofs.Common.{◌≡◌, ◌+◌, ◌^◌, ◌<◌, ◌≤◌, true, false, not, List, [], ◌++◌, length, pos, ◌+ℤ◌, ◌-ℤ◌, ◌*ℤ◌, sym, refl, ap, ◌∙◌, arith, w32, SFits, rules}
+use Rattle.std.proofs.Common.{◌≡◌, ◌+◌, ◌^◌, ◌<◌, true, not, ◌++◌, length, ◌+ℤ◌, ◌-ℤ◌, ◌*ℤ◌, sym, refl, ap, ◌∙◌, arith, w32, SFits, rules}
 use mathlib.Core.Bool.{beq}
 use lib.Signed.{lt_z, le_z}
 use Rattle.std.proofs.lemmas.Int.{to_z-of_z}
@@ -6,7 +6,7 @@ use Rattle.std.proofs.lemmas.Result.{MatchResult-weaker}
 use Rattle.std.specs.Ordering.{is_eq}
 use Rattle.syntax.specs.declared.Collection.TheVariants.{Set, Sequence}
 use Rattle.syntax.specs.declared.Binary.TheVariants.{Iff, Equal, NotEqual, Less, LessEqual, Greater, GreaterEqual, Subset, ProperSubset, InSet, NotInSet, Plus, Minus, Union, Difference, Concat, Times, Div, Rem, Mod, Inter, Apply}
-use Rattle.values.specs.Value.{Value, of, by_cells}
+use Rattle.values.specs.Value.{of, by_cells}
 use Rattle.values.specs.Lawful.{in_range}
 use Rattle.values.specs.Sets.{union, inter, difference}
 use Rattle.values.specs.Numbers.{quotient, remainder, modulus}

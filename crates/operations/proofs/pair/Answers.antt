@@ -1,4 +1,4 @@
-use Rattle.std.proofs.Common.{refl, arith, w32, SFits}
+use Rattle.std.proofs.Common.{refl, arith}
 use Rattle.std.proofs.lemmas.Int.{to_z-of_z}
 use Rattle.operations.proofs.Sorts.{pair_front}
 use Rattle.operations.proofs.pair.Goals as goal

@@ -1,10 +1,10 @@
-use Rattle.std.proofs.Common.{◌≡◌, Bool, true, false, ◌&&◌, length, sym, refl, ap, ◌∙◌, arith, w32, SFits, rules}
+use Rattle.std.proofs.Common.{◌≡◌, true, ◌&&◌, length, sym, refl, ap, ◌∙◌, arith, w32, SFits, rules}
 use mathlib.Core.Bool.{and-false}
 use Rattle.std.proofs.lemmas.Int.{to_z-of_z}
 use Rattle.std.proofs.lemmas.Result.{MatchResult-weaker}
 use Rattle.syntax.specs.declared.Collection.TheVariants.{Set}
 use Rattle.values.specs.declared.Operand.TheVariants.{Number}
-use Rattle.values.specs.Value.{Value, of}
+use Rattle.values.specs.Value.{of}
 use Rattle.values.specs.Numbers.{between}
 use Rattle.values.specs.Operators.{is, taking, made, number_of, range}
 use Rattle.values.specs.Cells.{told, in_cells}

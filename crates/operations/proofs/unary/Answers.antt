@@ -1,15 +1,15 @@
-use Rattle.std.proofs.Common.{◌≡◌, ◌+◌, ◌≤◌, true, false, not, ◌⊎◌, List, [], length, get_or, drop, pos, neg_ℤ, nat_abs, Ok, sym, refl, ap, ◌∙◌, inl, inr, arith, w32, SFits, rules}
+use Rattle.std.proofs.Common.{◌≡◌, ◌+◌, ◌≤◌, true, not, [], length, pos, neg_ℤ, nat_abs, Ok, sym, refl, ap, ◌∙◌, inl, inr, arith, w32, SFits, rules}
 use Rattle.std.proofs.lemmas.Int.{to_z-of_z}
 use Rattle.std.proofs.lemmas.Result.{MatchResult-weaker}
 use Rattle.std.proofs.lemmas.List.{length-drop}
 use Rattle.syntax.specs.declared.Collection.TheVariants.{Set, Sequence}
 use Rattle.syntax.specs.declared.Unary.TheVariants.{Not, Negate, Abs, Card, Len, Hd, Tl, Elems, Inds}
 use Rattle.values.specs.declared.Operand.TheVariants.{Number, Truth, Many}
-use Rattle.values.specs.Value.{Value, number, truth, cells, of}
+use Rattle.values.specs.Value.{number, of}
 use Rattle.values.specs.Lawful.{in_range}
 use Rattle.values.specs.Numbers.{between}
 use Rattle.values.specs.Sets.{gathered}
-use Rattle.values.specs.Operators.{is, operand, members, number_of, truth_of, answer, made}
+use Rattle.values.specs.Operators.{is, operand, members, answer, made}
 use Rattle.values.specs.Cells.{told, in_cells}
 use Rattle.values.proofs.Laws.{inner_of, cells_of}
 use Rattle.operations.proofs.Sorts.{number_cell, truth_cell, many_cell, many_cells, in_range_lem, short}

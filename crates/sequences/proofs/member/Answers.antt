@@ -1,4 +1,4 @@
-use Rattle.std.proofs.Common.{◌≡◌, sym, ap, ◌∙◌}
+use Rattle.std.proofs.Common.{ap, ◌∙◌}
 use Rattle.values.specs.Value.{past, front}
 use Rattle.values.proofs.Laws.{inner_of}
 use Rattle.sequences.proofs.Rows.{nth-row}

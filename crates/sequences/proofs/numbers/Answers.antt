@@ -1,10 +1,8 @@
-use Rattle.std.proofs.Common.{◌≡◌, ◌+◌, ◌-◌, ◌*◌, ◌<◌, [], ◌∷◌, ◌++◌, length, take, pos, ◌+ℤ◌, sym, refl, ap, ◌∙◌, arith, w32, SFits, rules}
-use Rattle.std.proofs.lemmas.List.{append-nil}
-use Rattle.std.proofs.lemmas.Result.{MatchResult-from_err}
-use Rattle.std.proofs.lemmas.Int.{to_z-of_z, ints}
+use Rattle.std.proofs.Common.{◌≡◌, ◌+◌, ◌-◌, [], ◌∷◌, ◌++◌, take, pos, ◌+ℤ◌, ap, ◌∙◌, arith, w32, SFits, rules}
+use Rattle.std.proofs.lemmas.Int.{to_z-of_z}
 use Rattle.values.specs.Value.{row}
 use Rattle.values.specs.Numbers.{span}
-use Rattle.sequences.proofs.Rows.{span_step, span_from, span_end, pair_on}
+use Rattle.sequences.proofs.Rows.{span_step, span_from, pair_on}
 use Rattle.sequences.proofs.numbers.Goals as goal
 
 pub loop-i-init : goal.loop-i-init

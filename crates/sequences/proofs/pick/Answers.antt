@@ -1,5 +1,5 @@
-use Rattle.std.proofs.Common.{◌≡◌, suc, ◌-◌, ◌<◌, ◌⊎◌, length, get_or, pos, Ok, sym, ap, ◌∙◌, inl, inr, arith, rules}
-use Rattle.values.specs.Value.{Value, number}
+use Rattle.std.proofs.Common.{◌≡◌, suc, ◌-◌, ◌<◌, ◌⊎◌, length, pos, Ok, sym, ap, ◌∙◌, inl, inr, arith}
+use Rattle.values.specs.Value.{number}
 use Rattle.values.specs.Operators.{nth}
 use Rattle.values.specs.Cells.{in_cells}
 use Rattle.sequences.proofs.Rows.{nth_at, nth_out, counted_of}

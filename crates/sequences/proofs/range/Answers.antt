@@ -1,9 +1,9 @@
-use Rattle.std.proofs.Common.{◌≡◌, ℕ, ◌+◌, ◌*◌, ◌^◌, ◌<◌, ◌≤◌, length, take, pos, ◌+ℤ◌, sym, ap, ◌∙◌, arith, w32, SFits, to_z, rules}
+use Rattle.std.proofs.Common.{◌≡◌, ℕ, ◌^◌, ◌<◌, ◌≤◌, length, pos, ap, ◌∙◌, arith, w32, to_z}
 use Rattle.std.proofs.lemmas.List.{length-set}
 use Rattle.std.proofs.lemmas.Result.{MatchResult-weaker}
-use Rattle.std.proofs.lemmas.Int.{to_z-of_z, to_z_pos, ints}
+use Rattle.std.proofs.lemmas.Int.{to_z-of_z, to_z_pos}
 use Rattle.syntax.specs.declared.Collection.TheVariants.{Set}
-use Rattle.values.specs.Value.{row, cells, of}
+use Rattle.values.specs.Value.{cells, of}
 use Rattle.values.specs.Numbers.{span}
 use Rattle.sequences.specs.Count.{width}
 use Rattle.sequences.proofs.Rows.{first_two, set_span, long_span}

@@ -1,4 +1,4 @@
-use Rattle.std.proofs.Common.{◌≡◌, ◌^◌, ◌<◌, ◌≤◌, List, length, ap, ◌∙◌, arith, w32, to_z, rules}
+use Rattle.std.proofs.Common.{◌^◌, ◌<◌, ◌≤◌, List, length, ap, ◌∙◌, arith, w32, to_z, rules}
 use Rattle.std.proofs.lemmas.List.{length-set, length-drop}
 use Rattle.std.proofs.lemmas.Result.{MatchResult-from_err}
 use Rattle.std.proofs.lemmas.Int.{to_z_pos}

@@ -1,7 +1,7 @@
-use Rattle.std.proofs.Common.{◌≡◌, ◌+◌, ◌-◌, ◌<◌, ◌≤◌, List, [], ◌∷◌, ◌++◌, length, get_or, take, drop, pos, ◌+ℤ◌, sym, refl, ap, ◌∙◌, arith, w32, SFits, rules}
+use Rattle.std.proofs.Common.{◌≡◌, ◌+◌, ◌∷◌, length, get_or, pos, ◌+ℤ◌, sym, refl, ap, ◌∙◌, arith, w32, SFits, rules}
 use Rattle.std.proofs.lemmas.List.{length-set, take_all}
 use Rattle.std.proofs.lemmas.Int.{to_z-of_z, ints}
-use Rattle.values.specs.Value.{Value, cells, row, of, code}
+use Rattle.values.specs.Value.{cells, row, of, code}
 use Rattle.values.specs.Operators.{grown}
 use Rattle.sets.proofs.Turned.{pair, fewer, grown_cells, grown_long, raised}
 use Rattle.sets.proofs.grow.Goals as goal

@@ -1,5 +1,5 @@
 use Rattle.std.proofs.Common.{◌≡◌, ℕ, ◌+◌, ◌<◌, List, [], ◌∷◌, ◌++◌, length, ℤ, Ordering, Less, Equal, Greater, sym, ap, ◌∙◌, arith, rules}
-use Rattle.std.proofs.lemmas.List.{append_assoc, append-nil, length-append}
+use Rattle.std.proofs.lemmas.List.{append_assoc, length-append}
 use Rattle.values.specs.Value.{Value, row, cells, past, front, by_cells, compare}
 use Rattle.values.proofs.Laws.{next, row_none}
 use Rattle.values.specs.Sets.{insert}

@@ -1,6 +1,5 @@
-use Rattle.std.proofs.Common.{◌≡◌, ◌+◌, ◌<◌, true, false, cond, List, [], length, sym, refl, ap, ◌∙◌, arith, rules}
+use Rattle.std.proofs.Common.{◌≡◌, ◌<◌, true, false, cond, [], length, sym, ap, ◌∙◌, arith, rules}
 use Rattle.std.specs.Ordering.{is_lt, is_le, is_ge}
-use Rattle.values.specs.Value.{Value, row, past}
 use Rattle.values.proofs.Laws.{row_none}
 use Rattle.sets.specs.Walk.{merge, keeps, side}
 use Rattle.sets.specs.declared.Blend.TheVariants.{Difference}

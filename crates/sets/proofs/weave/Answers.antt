@@ -1,8 +1,8 @@
-use Rattle.std.proofs.Common.{◌≡◌, ℕ, ◌+◌, ◌<◌, ◌≤◌, true, cond, List, [], ◌++◌, length, take, sym, refl, ap, ◌∙◌, arith, rules}
+use Rattle.std.proofs.Common.{◌≡◌, ℕ, ◌+◌, ◌<◌, cond, [], ◌++◌, length, take, sym, ap, ◌∙◌, arith, rules}
 use Rattle.std.specs.Ordering.{is_le, is_ge}
 use Rattle.std.proofs.lemmas.List.{append-nil}
 use Rattle.std.proofs.lemmas.Result.{MatchResult-from_err}
-use Rattle.values.specs.Value.{Value, row, past, front}
+use Rattle.values.specs.Value.{row, front}
 use Rattle.sets.specs.Walk.{merge, keeps, side, taken}
 use Rattle.values.proofs.Laws.{row_none}
 use Rattle.sets.proofs.Turns.{turn, sides, falls, left_of, right_of, goes_on, no_room, at_most_one}

@@ -1,4 +1,4 @@
-use Rattle.std.proofs.Common.{◌≡◌, ◌-◌, drop, Some, None, sym, refl, ap, ◌∙◌, rules}
+use Rattle.std.proofs.Common.{◌-◌, drop, Some, None, sym, refl, ap, ◌∙◌}
 use Rattle.reading.specs.declared.entry.Entry.TheVariants as entry
 use Rattle.reading.specs.Entries.{spelled, valued}
 use Rattle.checking.specs.Sightings.{node, numeral, bound}

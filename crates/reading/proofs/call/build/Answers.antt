@@ -1,8 +1,5 @@
-use Rattle.std.proofs.Common.{◌≡◌, ◌≤◌, length, None, Ok, sym, refl, ap, ◌∙◌, subst, arith}
-use Rattle.tables.specs.Items.{items, spare}
-use Rattle.tokens.specs.Pieces.{Cut}
-use Rattle.tokens.specs.Cutting.{CutInto}
-use Rattle.reading.proofs.Drafts.{made, made_only, denied, found, found_bad, found_long}
+use Rattle.std.proofs.Common.{length, ap, arith}
+use Rattle.reading.proofs.Drafts.{found}
 use Rattle.reading.proofs.call.build.Goals as goal
 
 pub parse-requires : goal.parse-requires

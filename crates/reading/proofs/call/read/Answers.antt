@@ -1,6 +1,6 @@
-use Rattle.std.proofs.Common.{◌≡◌, ◌-◌, ◌≤◌, ◌++◌, length, take, drop, replicate, sym, refl, ap, ◌∙◌, arith, length-drop, take-append-drop}
+use Rattle.std.proofs.Common.{◌≡◌, ◌-◌, ◌++◌, length, replicate, sym, refl, ap, ◌∙◌, arith, length-drop, take-append-drop}
 use Rattle.std.proofs.lemmas.List.{length-take}
-use Rattle.tables.specs.Items.{items, spare, slots, room}
+use Rattle.tables.specs.Items.{items, spare}
 use Rattle.reading.specs.declared.entry.Entry.TheVariants as entry
 use Rattle.reading.proofs.Drafts.{places_apart, places_own}
 use Rattle.reading.proofs.call.read.Goals as goal

@@ -1,14 +1,13 @@
 -- Each way through the functions for expressions follows the reading program.
-use Rattle.std.proofs.Common.{◌≡◌, ℕ, ◌+◌, ◌≤◌, false, Some, None, sym, refl, ap, ◌∙◌, subst, arith, lit≤, rules}
+use Rattle.std.proofs.Common.{◌≡◌, ◌+◌, false, Some, None, sym, refl, ap, ◌∙◌, subst, arith, lit≤, rules}
 use Rattle.std.proofs.lemmas.Result.{err_from_is_err_and}
 use Rattle.tables.specs.Items.{items}
-use Rattle.syntax.specs.declared.Collection.TheVariants as coll
 use Rattle.syntax.specs.declared.Binary.TheVariants as bin
 use Rattle.syntax.specs.declared.Connective.TheVariants as con
 use Rattle.syntax.specs.Tree.{Tree}
 use Rattle.grammar.specs.Grammar as grammar
 use Rattle.grammar.specs.Grammar.{Sort, join}
-use Rattle.grammar.specs.Steps.{Job, Test, call, ret, is, first, Misses, body, let_tail, such_that, bound, cases_tail, quantifier_tail, quantifier_of, after_comma, after_bar, after_item, members, collected, tuple_tail, right_side, member, operation, infix_at, relation_of, numeral_of}
+use Rattle.grammar.specs.Steps.{Job, call, ret, is, first, Misses, body, let_tail, such_that, bound, cases_tail, quantifier_tail, quantifier_of, after_comma, after_bar, after_item, members, collected, tuple_tail, right_side, member, operation, infix_at, relation_of, numeral_of}
 use Rattle.reading.specs.declared.entry.Entry.TheVariants as entry
 use Rattle.reading.specs.Entries.{spelled, joined, Stands, Holds}
 use Rattle.reading.specs.Signs.{left_of, lead_of}

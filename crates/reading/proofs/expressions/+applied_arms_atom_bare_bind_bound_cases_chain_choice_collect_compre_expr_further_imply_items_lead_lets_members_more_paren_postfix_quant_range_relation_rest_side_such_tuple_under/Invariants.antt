@@ -1,4 +1,4 @@
-use Rattle.std.proofs.Common.{◌+◌, ◌-◌, ◌*◌}
+use Rattle.std.proofs.Common.{◌+◌}
 use Rattle.reading.specs.Sources.{size}
 use Rattle.reading.proofs.Ranks.{left_of, chain_rank, under_rank, lead_rank, bare_rank}
 use Rattle.reading.proofs.expressions.+applied_arms_atom_bare_bind_bound_cases_chain_choice_collect_compre_expr_further_imply_items_lead_lets_members_more_paren_postfix_quant_range_relation_rest_side_such_tuple_under.Given as goal

@@ -1,8 +1,7 @@
-use Rattle.std.proofs.Common.{◌≡◌, ℕ, ◌+◌, ◌≤◌, false, Some, None, sym, refl, ap, ◌∙◌, subst, arith, lit≤}
+use Rattle.std.proofs.Common.{◌+◌, false, None, sym, refl, ap, ◌∙◌, subst, lit≤}
 use Rattle.std.proofs.lemmas.Result.{err_from_is_err_and}
 use Rattle.tables.specs.Items.{items}
 use Rattle.syntax.specs.declared.Collection.TheVariants as coll
-use Rattle.syntax.specs.Tree.{Pattern, Patterns}
 use Rattle.grammar.specs.Steps.{Job, body, sequence_tail, after_pattern}
 use Rattle.reading.specs.declared.entry.Entry.TheVariants as entry
 use Rattle.reading.specs.Entries.{Stands}

@@ -1,4 +1,4 @@
-use Rattle.std.proofs.Common.{◌≤◌, min, length, take, sym, ◌∙◌, arith, rules}
+use Rattle.std.proofs.Common.{arith, rules}
 use Rattle.std.proofs.lemmas.List.{length-take}
 use Rattle.tables.proofs.Front.{take_short}
 use Rattle.tables.proofs.Table.items.Goals as goal

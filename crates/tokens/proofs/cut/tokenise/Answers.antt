@@ -1,6 +1,5 @@
-use Rattle.std.proofs.Common.{◌≡◌, ℕ, ◌-◌, ◌<◌, ◌≤◌, List, length, take, drop, Some, None, Ok, Err, refl, subst, arith, length-drop}
+use Rattle.std.proofs.Common.{ℕ, ◌-◌, ◌<◌, List, length, take, drop, Some, None, Ok, Err, refl, subst, arith, length-drop}
 use Rattle.std.proofs.lemmas.List.{take_rest}
-use Rattle.tables.specs.Items.{spare}
 use Rattle.tokens.specs.declared.Refusal.TheVariants.{NoToken}
 use Rattle.tokens.specs.Pieces.{Begins, Bad}
 use Rattle.tokens.specs.Cutting.{Skipped}

@@ -1,6 +1,4 @@
-use Rattle.std.proofs.Common.{◌≡◌, true, false, map, sym, ap, ◌∙◌, rules}
-use Rattle.syntax.specs.Names.{among}
-use Rattle.reading.specs.Entries.{spelled}
+use Rattle.std.proofs.Common.{rules}
 use Rattle.checking.specs.Scopes.{sighted}
 use Rattle.checking.proofs.Noted.{noted_before, noted_already, noted, noted_beyond, noted_far}
 use Rattle.checking.proofs.findings.Findings.name.Goals as goal

@@ -1,6 +1,6 @@
-use Rattle.std.proofs.Common.{◌≡◌, ◌+◌, ◌<◌, [], ◌∷◌, ◌++◌, length, take, set, ap, ◌∙◌, arith, rules}
+use Rattle.std.proofs.Common.{◌≡◌, ◌<◌, [], ◌∷◌, ◌++◌, length, take, ap, ◌∙◌, arith, rules}
 use borrow.Author.Tests.{lt-true}
-use Rattle.std.proofs.lemmas.List.{take_more_set, length-take}
+use Rattle.std.proofs.lemmas.List.{take_more_set}
 use Rattle.checking.specs.Found.{listed}
 use Rattle.checking.proofs.Lists.{take_short}
 use Rattle.checking.proofs.findings.Names.add.Goals as goal

@@ -1,4 +1,4 @@
-use Rattle.std.proofs.Common.{◌≡◌, ◌+◌, ◌<◌, ◌≤◌, cond, [], ◌∷◌, ◌++◌, length, take, set, sym, ap, ◌∙◌, arith, rules}
+use Rattle.std.proofs.Common.{◌≡◌, cond, [], ◌∷◌, ◌++◌, length, take, ap, ◌∙◌, arith, rules}
 use borrow.Author.Tests.{lt-true}
 use Rattle.std.proofs.lemmas.List.{take_more_set, take-set-le, length-take}
 use Rattle.checking.specs.Scopes.{sight}

@@ -1,5 +1,3 @@
-use Rattle.std.proofs.Common.{◌≡◌, cond, sym, refl, ap}
-use Rattle.syntax.specs.declared.Quantifier.TheVariants as quant
 use Rattle.reading.proofs.Looking.{forall_seen, exists_seen, no_quantifier_seen}
 use Rattle.reading.proofs.source.Source.quantifier.Goals as goal
 
