@@ -48,7 +48,7 @@ fn instructions(rt: HostRuntime) {
     assert!(rt; table.push(Instr::Jump(0)).is_ok());
     assert!(rt; table.set(1, Instr::Jump(2)));
     assert!(rt; !table.set(2, Instr::Add));
-    assert_eq!(rt; table.items(), &[Instr::Push(-1), Instr::Jump(2)]);
+    assert_eq!(rt; table.items(), [Instr::Push(-1), Instr::Jump(2)].as_slice());
 }
 
 #[test]
@@ -60,7 +60,7 @@ fn cells(rt: HostRuntime) {
     assert_eq!(rt; table.len(), 0);
     assert_eq!(rt; table.capacity(), 4);
     assert!(rt; table.push(1).is_ok());
-    assert_eq!(rt; table.items(), &[1]);
+    assert_eq!(rt; table.items(), [1].as_slice());
 }
 
 #[test]
@@ -71,5 +71,5 @@ fn cleared_slots(rt: HostRuntime) {
         assert!(rt; table.push(8).is_ok());
         table.clear(0);
     }
-    assert_eq!(rt; &slots[0..], &[0, 0, 0]);
+    assert_eq!(rt; &slots[0..], [0, 0, 0].as_slice());
 }

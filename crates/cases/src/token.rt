@@ -116,6 +116,6 @@ fn lengths(rt: HostRuntime) {
 
 #[test]
 fn spellings(rt: HostRuntime) {
-    assert_eq!(rt; tokens::spelling(tokens::Mark::Iff), b"<=>");
-    assert_eq!(rt; tokens::spelling(tokens::Mark::Mk), b"mk_");
+    assert_eq!(rt; tokens::spelling(tokens::Mark::Iff), b"<=>".as_slice());
+    assert_eq!(rt; tokens::spelling(tokens::Mark::Mk), b"mk_".as_slice());
 }
