@@ -79,7 +79,7 @@ impl Source<'_> {
 }
 
 // A pattern, whose names are in sight from number `from` on.
-#[cycle(pattern_patterns)]
+#[cycle(pattern)]
 fn pattern(
     src: &Source<'_>,
     fuel: usize,
@@ -116,7 +116,7 @@ fn pattern(
 }
 
 // The parts of a pattern, from a link on.
-#[cycle(pattern_patterns)]
+#[cycle(pattern)]
 fn patterns(
     src: &Source<'_>,
     fuel: usize,
@@ -140,7 +140,7 @@ fn patterns(
 }
 
 // An expression.
-#[cycle(arms_expression_filter_items_optional_side_under)]
+#[cycle(expression)]
 fn expression(
     src: &Source<'_>,
     fuel: usize,
@@ -278,7 +278,7 @@ fn expression(
 }
 
 // An expression in which one more name is in sight.
-#[cycle(arms_expression_filter_items_optional_side_under)]
+#[cycle(expression)]
 fn under(
     src: &Source<'_>,
     fuel: usize,
@@ -298,7 +298,7 @@ fn under(
 }
 
 // The condition of a comprehension, if it has one: the name is in sight there.
-#[cycle(arms_expression_filter_items_optional_side_under)]
+#[cycle(expression)]
 fn filter(
     src: &Source<'_>,
     fuel: usize,
@@ -317,7 +317,7 @@ fn filter(
 }
 
 // What may be absent.
-#[cycle(arms_expression_filter_items_optional_side_under)]
+#[cycle(expression)]
 fn optional(
     src: &Source<'_>,
     fuel: usize,
@@ -335,7 +335,7 @@ fn optional(
 }
 
 // Members or parts, from a link on.
-#[cycle(arms_expression_filter_items_optional_side_under)]
+#[cycle(expression)]
 fn items(
     src: &Source<'_>,
     fuel: usize,
@@ -358,7 +358,7 @@ fn items(
 }
 
 // Alternatives, from a link on.
-#[cycle(arms_expression_filter_items_optional_side_under)]
+#[cycle(expression)]
 fn arms(
     src: &Source<'_>,
     fuel: usize,
@@ -381,7 +381,7 @@ fn arms(
 }
 
 // A pattern, and the right side, in which its names are in sight.
-#[cycle(arms_expression_filter_items_optional_side_under)]
+#[cycle(expression)]
 fn side(
     src: &Source<'_>,
     fuel: usize,

@@ -23,7 +23,7 @@ use tables::Table;
 use tokens::Mark;
 
 // E = let .. | if .. | cases .. | forall .. | exists .. | C
-#[cycle(applied_arms_atom_bare_bind_bound_cases_chain_choice_collect_compre_expr_further_imply_items_lead_lets_members_more_paren_postfix_quant_range_relation_rest_side_such_tuple_under)]
+#[cycle(expression)]
 pub(crate) fn expr(
     src: &Source<'_>,
     at: usize,
@@ -50,7 +50,7 @@ pub(crate) fn expr(
 }
 
 // let name = E in E | let B be st E in E, behind `let`
-#[cycle(applied_arms_atom_bare_bind_bound_cases_chain_choice_collect_compre_expr_further_imply_items_lead_lets_members_more_paren_postfix_quant_range_relation_rest_side_such_tuple_under)]
+#[cycle(expression)]
 fn lets(
     src: &Source<'_>,
     place: usize,
@@ -71,7 +71,7 @@ fn lets(
 }
 
 // E in E, behind `let name =`
-#[cycle(applied_arms_atom_bare_bind_bound_cases_chain_choice_collect_compre_expr_further_imply_items_lead_lets_members_more_paren_postfix_quant_range_relation_rest_side_such_tuple_under)]
+#[cycle(expression)]
 fn bound(
     src: &Source<'_>,
     place: usize,
@@ -102,7 +102,7 @@ fn bound(
 }
 
 // in set C be st E in E, behind `let name`
-#[cycle(applied_arms_atom_bare_bind_bound_cases_chain_choice_collect_compre_expr_further_imply_items_lead_lets_members_more_paren_postfix_quant_range_relation_rest_side_such_tuple_under)]
+#[cycle(expression)]
 fn such(
     src: &Source<'_>,
     place: usize,
@@ -139,7 +139,7 @@ fn such(
 }
 
 // E then E (elseif ..| else E), behind `if` or `elseif`
-#[cycle(applied_arms_atom_bare_bind_bound_cases_chain_choice_collect_compre_expr_further_imply_items_lead_lets_members_more_paren_postfix_quant_range_relation_rest_side_such_tuple_under)]
+#[cycle(expression)]
 fn choice(
     src: &Source<'_>,
     place: usize,
@@ -187,7 +187,7 @@ fn choice(
 }
 
 // E : A (, A)* (, others -> E)? end, behind `cases`
-#[cycle(applied_arms_atom_bare_bind_bound_cases_chain_choice_collect_compre_expr_further_imply_items_lead_lets_members_more_paren_postfix_quant_range_relation_rest_side_such_tuple_under)]
+#[cycle(expression)]
 fn cases(
     src: &Source<'_>,
     place: usize,
@@ -214,7 +214,7 @@ fn cases(
 }
 
 // A (, A)* (, others -> E)?, where A = P -> E
-#[cycle(applied_arms_atom_bare_bind_bound_cases_chain_choice_collect_compre_expr_further_imply_items_lead_lets_members_more_paren_postfix_quant_range_relation_rest_side_such_tuple_under)]
+#[cycle(expression)]
 fn arms(src: &Source<'_>, at: usize, table: &mut Table<'_, Entry>) -> Result<Branches, usize>
     requires { Fits src.now at 0 table.old }
     ensures { Came (Job.arms) (program Job.arms) src.now at false 0 table.old table.new (λ x. x.next) (ArmsAt src.now) result }
@@ -271,7 +271,7 @@ fn arms(src: &Source<'_>, at: usize, table: &mut Table<'_, Entry>) -> Result<Bra
 }
 
 // B & E, behind `forall` or `exists`
-#[cycle(applied_arms_atom_bare_bind_bound_cases_chain_choice_collect_compre_expr_further_imply_items_lead_lets_members_more_paren_postfix_quant_range_relation_rest_side_such_tuple_under)]
+#[cycle(expression)]
 fn quant(
     src: &Source<'_>,
     place: usize,
@@ -303,7 +303,7 @@ fn quant(
 }
 
 // B = name in set C
-#[cycle(applied_arms_atom_bare_bind_bound_cases_chain_choice_collect_compre_expr_further_imply_items_lead_lets_members_more_paren_postfix_quant_range_relation_rest_side_such_tuple_under)]
+#[cycle(expression)]
 fn bind(src: &Source<'_>, at: usize, table: &mut Table<'_, Entry>) -> Result<Binding, usize>
     requires { Fits src.now at 0 table.old }
     ensures { Came (Job.bind) (program Job.bind) src.now at false 0 table.old table.new (λ x. x.next) (BindAt src.now) result }
@@ -322,7 +322,7 @@ fn bind(src: &Source<'_>, at: usize, table: &mut Table<'_, Entry>) -> Result<Bin
 }
 
 // A level whose signs group to the left.
-#[cycle(applied_arms_atom_bare_bind_bound_cases_chain_choice_collect_compre_expr_further_imply_items_lead_lets_members_more_paren_postfix_quant_range_relation_rest_side_such_tuple_under)]
+#[cycle(expression)]
 fn chain(
     src: &Source<'_>,
     level: Left,
@@ -338,7 +338,7 @@ fn chain(
 }
 
 // The level below.
-#[cycle(applied_arms_atom_bare_bind_bound_cases_chain_choice_collect_compre_expr_further_imply_items_lead_lets_members_more_paren_postfix_quant_range_relation_rest_side_such_tuple_under)]
+#[cycle(expression)]
 fn under(
     src: &Source<'_>,
     level: Left,
@@ -359,7 +359,7 @@ fn under(
 }
 
 // What follows an operand of such a level.
-#[cycle(applied_arms_atom_bare_bind_bound_cases_chain_choice_collect_compre_expr_further_imply_items_lead_lets_members_more_paren_postfix_quant_range_relation_rest_side_such_tuple_under)]
+#[cycle(expression)]
 fn more(
     src: &Source<'_>,
     level: Left,
@@ -407,7 +407,7 @@ fn join(op: Operation, place: usize, left: usize, right: usize) -> Entry
 }
 
 // or-level (=> implication)?
-#[cycle(applied_arms_atom_bare_bind_bound_cases_chain_choice_collect_compre_expr_further_imply_items_lead_lets_members_more_paren_postfix_quant_range_relation_rest_side_such_tuple_under)]
+#[cycle(expression)]
 fn imply(
     src: &Source<'_>,
     at: usize,
@@ -439,7 +439,7 @@ fn imply(
 }
 
 // Prefix signs.
-#[cycle(applied_arms_atom_bare_bind_bound_cases_chain_choice_collect_compre_expr_further_imply_items_lead_lets_members_more_paren_postfix_quant_range_relation_rest_side_such_tuple_under)]
+#[cycle(expression)]
 fn lead(
     src: &Source<'_>,
     level: Lead,
@@ -469,7 +469,7 @@ fn lead(
 }
 
 // The level below.
-#[cycle(applied_arms_atom_bare_bind_bound_cases_chain_choice_collect_compre_expr_further_imply_items_lead_lets_members_more_paren_postfix_quant_range_relation_rest_side_such_tuple_under)]
+#[cycle(expression)]
 fn bare(
     src: &Source<'_>,
     level: Lead,
@@ -487,7 +487,7 @@ fn bare(
 }
 
 // One relation at most.
-#[cycle(applied_arms_atom_bare_bind_bound_cases_chain_choice_collect_compre_expr_further_imply_items_lead_lets_members_more_paren_postfix_quant_range_relation_rest_side_such_tuple_under)]
+#[cycle(expression)]
 fn relation(
     src: &Source<'_>,
     at: usize,
@@ -524,7 +524,7 @@ fn relation(
 }
 
 // The right side of a relation.
-#[cycle(applied_arms_atom_bare_bind_bound_cases_chain_choice_collect_compre_expr_further_imply_items_lead_lets_members_more_paren_postfix_quant_range_relation_rest_side_such_tuple_under)]
+#[cycle(expression)]
 fn side(
     src: &Source<'_>,
     place: usize,
@@ -553,7 +553,7 @@ fn side(
 }
 
 // An atom, applied and selected from.
-#[cycle(applied_arms_atom_bare_bind_bound_cases_chain_choice_collect_compre_expr_further_imply_items_lead_lets_members_more_paren_postfix_quant_range_relation_rest_side_such_tuple_under)]
+#[cycle(expression)]
 fn postfix(src: &Source<'_>, at: usize, table: &mut Table<'_, Entry>) -> Result<Read, usize>
     requires { Fits src.now at 0 table.old }
     ensures { (f : Bool) → Came (Job.parse Sort.postfix f) (program (Job.parse Sort.postfix f)) src.now at false 0 table.old table.new (λ x. x.next) (TreeAt src.now) result }
@@ -563,7 +563,7 @@ fn postfix(src: &Source<'_>, at: usize, table: &mut Table<'_, Entry>) -> Result<
 }
 
 // ( E ) and .# numeral, any number of times
-#[cycle(applied_arms_atom_bare_bind_bound_cases_chain_choice_collect_compre_expr_further_imply_items_lead_lets_members_more_paren_postfix_quant_range_relation_rest_side_such_tuple_under)]
+#[cycle(expression)]
 fn applied(src: &Source<'_>, left: Read, table: &mut Table<'_, Entry>) -> Result<Read, usize>
     requires { Fits src.now left.next 0 table.old }
     ensures { (a : Tree) (far : Bool) → TreeAt src.now (items_of table.old) left a → Came (Job.applied a) (program (Job.applied a)) src.now left.next far 0 table.old table.new (λ x. x.next) (TreeAt src.now) result }
@@ -608,7 +608,7 @@ fn applied(src: &Source<'_>, left: Read, table: &mut Table<'_, Entry>) -> Result
 }
 
 // numeral | name | true | false | ( E ) | a set, a sequence, a tuple
-#[cycle(applied_arms_atom_bare_bind_bound_cases_chain_choice_collect_compre_expr_further_imply_items_lead_lets_members_more_paren_postfix_quant_range_relation_rest_side_such_tuple_under)]
+#[cycle(expression)]
 fn atom(src: &Source<'_>, at: usize, table: &mut Table<'_, Entry>) -> Result<Read, usize>
     requires { Fits src.now at 0 table.old }
     ensures { Came (Job.parse Sort.atom false) (program (Job.parse Sort.atom false)) src.now at false 0 table.old table.new (λ x. x.next) (TreeAt src.now) result }
@@ -646,7 +646,7 @@ fn atom(src: &Source<'_>, at: usize, table: &mut Table<'_, Entry>) -> Result<Rea
 }
 
 // E ), behind `(`
-#[cycle(applied_arms_atom_bare_bind_bound_cases_chain_choice_collect_compre_expr_further_imply_items_lead_lets_members_more_paren_postfix_quant_range_relation_rest_side_such_tuple_under)]
+#[cycle(expression)]
 fn paren(src: &Source<'_>, at: usize, table: &mut Table<'_, Entry>) -> Result<Read, usize>
     requires { Fits src.now at 0 table.old }
     ensures { Came (Job.parse Sort.atom false) (in_parentheses) src.now at false 0 table.old table.new (λ x. x.next) (TreeAt src.now) result }
@@ -660,7 +660,7 @@ fn paren(src: &Source<'_>, at: usize, table: &mut Table<'_, Entry>) -> Result<Re
 }
 
 // ( E , E ... ), behind `mk_`
-#[cycle(applied_arms_atom_bare_bind_bound_cases_chain_choice_collect_compre_expr_further_imply_items_lead_lets_members_more_paren_postfix_quant_range_relation_rest_side_such_tuple_under)]
+#[cycle(expression)]
 fn tuple(
     src: &Source<'_>,
     place: usize,
@@ -685,7 +685,7 @@ fn tuple(
 }
 
 // A set or a sequence, behind its opening bracket.
-#[cycle(applied_arms_atom_bare_bind_bound_cases_chain_choice_collect_compre_expr_further_imply_items_lead_lets_members_more_paren_postfix_quant_range_relation_rest_side_such_tuple_under)]
+#[cycle(expression)]
 fn collect(
     src: &Source<'_>,
     bracket: Bracket,
@@ -734,7 +734,7 @@ fn collect(
 }
 
 // More members, or the end of a range, behind the first and its comma.
-#[cycle(applied_arms_atom_bare_bind_bound_cases_chain_choice_collect_compre_expr_further_imply_items_lead_lets_members_more_paren_postfix_quant_range_relation_rest_side_such_tuple_under)]
+#[cycle(expression)]
 fn members(
     src: &Source<'_>,
     bracket: Bracket,
@@ -758,7 +758,7 @@ fn members(
 }
 
 // More members, behind the first and its comma.
-#[cycle(applied_arms_atom_bare_bind_bound_cases_chain_choice_collect_compre_expr_further_imply_items_lead_lets_members_more_paren_postfix_quant_range_relation_rest_side_such_tuple_under)]
+#[cycle(expression)]
 fn rest(
     src: &Source<'_>,
     bracket: Bracket,
@@ -790,7 +790,7 @@ fn rest(
 }
 
 // , E }, behind `{ E , ...`
-#[cycle(applied_arms_atom_bare_bind_bound_cases_chain_choice_collect_compre_expr_further_imply_items_lead_lets_members_more_paren_postfix_quant_range_relation_rest_side_such_tuple_under)]
+#[cycle(expression)]
 fn range(
     src: &Source<'_>,
     place: usize,
@@ -815,7 +815,7 @@ fn range(
 }
 
 // B or B & E, behind the member and `|`
-#[cycle(applied_arms_atom_bare_bind_bound_cases_chain_choice_collect_compre_expr_further_imply_items_lead_lets_members_more_paren_postfix_quant_range_relation_rest_side_such_tuple_under)]
+#[cycle(expression)]
 fn compre(
     src: &Source<'_>,
     bracket: Bracket,
@@ -859,7 +859,7 @@ fn compre(
 }
 
 // E (, E)*
-#[cycle(applied_arms_atom_bare_bind_bound_cases_chain_choice_collect_compre_expr_further_imply_items_lead_lets_members_more_paren_postfix_quant_range_relation_rest_side_such_tuple_under)]
+#[cycle(expression)]
 fn items(
     src: &Source<'_>,
     at: usize,
@@ -887,7 +887,7 @@ fn items(
 }
 
 // The items behind one and its comma.
-#[cycle(applied_arms_atom_bare_bind_bound_cases_chain_choice_collect_compre_expr_further_imply_items_lead_lets_members_more_paren_postfix_quant_range_relation_rest_side_such_tuple_under)]
+#[cycle(expression)]
 fn further(
     src: &Source<'_>,
     item: Read,

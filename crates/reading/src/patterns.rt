@@ -14,7 +14,7 @@ use tables::Table;
 use tokens::Mark;
 
 // P = - | name | numeral | true | false | [ ] | [ P (, P)* ] | mk_ ( P , P ... )
-#[cycle(further_pattern_patterns_sequence)]
+#[cycle(pattern)]
 pub(crate) fn pattern(
     src: &Source<'_>,
     at: usize,
@@ -69,7 +69,7 @@ pub(crate) fn pattern(
 }
 
 // [ ] | [ P (, P)* ], behind the `[` at this place
-#[cycle(further_pattern_patterns_sequence)]
+#[cycle(pattern)]
 fn sequence(
     src: &Source<'_>,
     place: usize,
@@ -108,7 +108,7 @@ fn sequence(
 }
 
 // P (, P)*
-#[cycle(further_pattern_patterns_sequence)]
+#[cycle(pattern)]
 fn patterns(
     src: &Source<'_>,
     at: usize,
@@ -136,7 +136,7 @@ fn patterns(
 }
 
 // The parts behind one and its comma.
-#[cycle(further_pattern_patterns_sequence)]
+#[cycle(pattern)]
 fn further(
     src: &Source<'_>,
     part: Read,

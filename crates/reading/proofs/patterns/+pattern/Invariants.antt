@@ -1,6 +1,6 @@
 use Rattle.std.proofs.Common.{◌+◌, ◌-◌, ◌*◌}
 use Rattle.reading.specs.Sources.{size}
-use Rattle.reading.proofs.patterns.+further_pattern_patterns_sequence.Given as goal
+use Rattle.reading.proofs.patterns.+pattern.Given as goal
 
 -- the tokens left, and then the order of the calls that read none
 abbrev pub decreases-further : goal.decreases-further

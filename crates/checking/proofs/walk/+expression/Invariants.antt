@@ -1,5 +1,5 @@
 use Rattle.std.proofs.Common.{◌+◌, ◌*◌}
-use Rattle.checking.proofs.walk.+arms_expression_filter_items_optional_side_under.Given as goal
+use Rattle.checking.proofs.walk.+expression.Given as goal
 
 abbrev pub decreases-arms : goal.decreases-arms
 decreases-arms l = 4 * l.fuel

@@ -7,7 +7,7 @@ use Rattle.checking.specs.Walk.{see_node, see_number, see_bound}
 use Rattle.checking.specs.Walked.{text_of, reach, trail}
 use Rattle.checking.proofs.Going.{grew, binding, stay_matched, into_pattern, into_patterns, matching, then_matched}
 use Rattle.checking.proofs.Others.{no_pattern}
-use Rattle.checking.proofs.walk.+pattern_patterns.Goals as goal
+use Rattle.checking.proofs.walk.+pattern.Goals as goal
 
 pub pattern-returns-then-fuel-eq0 : goal.pattern-returns-then-fuel-eq0
 pattern-returns-then-fuel-eq0 t c = stay_matched c.args.src.now c.args.fuel c.args.scope.now c.args.found.now c.if-fuel-eq0.true (λ w. w.pattern c.args.from c.args.at c.args.level) refl

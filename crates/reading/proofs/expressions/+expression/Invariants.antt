@@ -1,7 +1,7 @@
 use Rattle.std.proofs.Common.{◌+◌}
 use Rattle.reading.specs.Sources.{size}
 use Rattle.reading.proofs.Ranks.{left_of, chain_rank, under_rank, lead_rank, bare_rank}
-use Rattle.reading.proofs.expressions.+applied_arms_atom_bare_bind_bound_cases_chain_choice_collect_compre_expr_further_imply_items_lead_lets_members_more_paren_postfix_quant_range_relation_rest_side_such_tuple_under.Given as goal
+use Rattle.reading.proofs.expressions.+expression.Given as goal
 
 -- the tokens left, and then the order of the calls that read none
 

@@ -1,4 +1,4 @@
-use Rattle.checking.proofs.walk.+pattern_patterns.Given as goal
+use Rattle.checking.proofs.walk.+pattern.Given as goal
 
 abbrev pub decreases-pattern : goal.decreases-pattern
 decreases-pattern l = l.fuel

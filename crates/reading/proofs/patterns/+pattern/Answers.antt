@@ -9,7 +9,7 @@ use Rattle.reading.specs.Sources.{limit_of, PatternAt, PatternsAt, further_patte
 use Rattle.reading.proofs.Held.{stands_new, added, pattern_more, patterns_more}
 use Rattle.reading.proofs.Looking.{place_here}
 use Rattle.reading.proofs.Ways.{start, becoming, wanted, taken, passed, called, putting, lost_call, lost_want, returned, returned_at, tail}
-use Rattle.reading.proofs.patterns.+further_pattern_patterns_sequence.Goals as goal
+use Rattle.reading.proofs.patterns.+pattern.Goals as goal
 
 -- P = - | name | numeral | true | false | [ ] | [ P (, P)* ] | mk_ ( P , P ... )
 

@@ -15,7 +15,7 @@ use Rattle.reading.specs.Sources.{from, limit_of, bracket_of, Sees, Came, TreeAt
 use Rattle.reading.proofs.Held.{stands_more, stands_new, added, then_more, pattern_more, tree_more, items_more, arms_more, optional_more, holds_join}
 use Rattle.reading.proofs.Looking.{place_here}
 use Rattle.reading.proofs.Ways.{start, becoming, moved, wanted, taken, passed, both, only, neither, called, putting, lost_call, lost_want, returned, returned_at, tail, tail_call, fits, slot}
-use Rattle.reading.proofs.expressions.+applied_arms_atom_bare_bind_bound_cases_chain_choice_collect_compre_expr_further_imply_items_lead_lets_members_more_paren_postfix_quant_range_relation_rest_side_such_tuple_under.Goals as goal
+use Rattle.reading.proofs.expressions.+expression.Goals as goal
 
 pub expr-returns-then-is : goal.expr-returns-then-is
 expr-returns-then-is t c =

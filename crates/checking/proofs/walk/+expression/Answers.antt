@@ -9,7 +9,7 @@ use Rattle.checking.specs.Walk.{see_node, see_number, see_name, occurrence, visi
 use Rattle.checking.specs.Walked.{text_of, reach, armed, trail, Walked}
 use Rattle.checking.proofs.Going.{kept, binding, restored, noting, looking, then, stay, into_tree, into_items, into_arms}
 use Rattle.checking.proofs.Others.{no_expression}
-use Rattle.checking.proofs.walk.+arms_expression_filter_items_optional_side_under.Goals as goal
+use Rattle.checking.proofs.walk.+expression.Goals as goal
 
 pub expression-returns-then-fuel-eq0 : goal.expression-returns-then-fuel-eq0
 expression-returns-then-fuel-eq0 t c =
