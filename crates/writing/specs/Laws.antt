@@ -1,6 +1,6 @@
 -- What holds of the lines of lawful values.
 use Rattle.std.specs.Prelude.{◌≡◌, ◌<◌, ◌≤◌, length}
-use Rattle.std.specs.List.{AllByRecursion as All}
+use Rattle.std.specs.List.{AllByRecursion}
 use Rattle.values.specs.Value.{Value}
 use Rattle.values.specs.Lawful.{Lawful}
 use Rattle.writing.specs.Written.{written}
@@ -15,7 +15,7 @@ Reached = (v : Value) × Lawful v × (length (written v) ≡ 1290)
 
 -- blanks and visible characters: no line feed
 abbrev pub Printable : Type 0
-Printable = (v : Value) → Lawful v → All (λ c. (32 ≤ c) × (c < 127)) (written v)
+Printable = (v : Value) → Lawful v → AllByRecursion (λ c. (32 ≤ c) × (c < 127)) (written v)
 
 -- different values are written differently
 abbrev pub Distinct : Type 0
