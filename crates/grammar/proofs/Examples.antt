@@ -8,7 +8,7 @@ use Rattle.grammar.specs.Steps.{parse, Out, out, body}
 use Rattle.grammar.specs.Sentences.{Accepted, Refused}
 use Rattle.grammar.specs.Places.{Ascend}
 use Rattle.grammar.specs.Order.{sites}
-use Rattle.grammar.specs.Examples.{numbered, filter_tree, Examples}
+use Rattle.grammar.specs.Examples.{numbered, filter_tree, Examples, OrderExamples}
 use Rattle.grammar.proofs.Sentences.{sound, first_bad}
 use Rattle.grammar.proofs.Exec.{exec, exec_run}
 
@@ -62,6 +62,10 @@ examples = record {
   cases_others = taken refl;
   elseif = taken refl;
   if_as_operand = bad (lit≤ tt) refl;
+}
+
+pub order_examples : OrderExamples
+order_examples = record {
   filter = taken refl;
   filter_names = listed;
   ascend = ascending;

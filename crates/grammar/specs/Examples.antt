@@ -56,13 +56,6 @@ Bad ss k = Refused Sort.expr (numbered 0 ss) k
 abbrev pub Good : List Symbol → Tree → Type 0
 Good ss t = Accepted Sort.expr (numbered 0 ss) t
 
--- {x + a | x in set s & x < b}
-abbrev pub filter_text : List Symbol
-filter_text = w sign.OpenBrace ∷ x ∷ w sign.Plus ∷ a ∷ w sign.Bar ∷ x ∷ w sign.In ∷ w sign.Set ∷ s ∷ w sign.Ampersand ∷ x ∷ w sign.Less ∷ b ∷ w sign.CloseBrace ∷ []
-
-abbrev pub filter_tree : Tree
-filter_tree = Tree.comprehension 0 coll.Set (Tree.binary 2 bin.Plus (X 1) (A 3)) (120 ∷ []) (S 8) (Optional.present (Tree.binary 11 bin.Less (X 10) (B 12)))
-
 pub record Examples : Type 0 where
   -- the empty text
   pub empty : Bad [] 0
@@ -121,6 +114,16 @@ pub record Examples : Type 0 where
   pub elseif : Good (w sign.If ∷ a ∷ w sign.Then ∷ b ∷ w sign.Elseif ∷ x ∷ w sign.Then ∷ s ∷ w sign.Else ∷ a ∷ []) (Tree.if_else 0 (A 1) (B 3) (Tree.if_else 4 (X 5) (S 7) (A 9)))
   -- a and if b then x else s
   pub if_as_operand : Bad (a ∷ w sign.And ∷ w sign.If ∷ b ∷ w sign.Then ∷ x ∷ w sign.Else ∷ s ∷ []) 2
+
+-- {x + a | x in set s & x < b}
+abbrev pub filter_text : List Symbol
+filter_text = w sign.OpenBrace ∷ x ∷ w sign.Plus ∷ a ∷ w sign.Bar ∷ x ∷ w sign.In ∷ w sign.Set ∷ s ∷ w sign.Ampersand ∷ x ∷ w sign.Less ∷ b ∷ w sign.CloseBrace ∷ []
+
+abbrev pub filter_tree : Tree
+filter_tree = Tree.comprehension 0 coll.Set (Tree.binary 2 bin.Plus (X 1) (A 3)) (120 ∷ []) (S 8) (Optional.present (Tree.binary 11 bin.Less (X 10) (B 12)))
+
+-- a rule whose free names are listed in the order of its text
+pub record OrderExamples : Type 0 where
   -- {x + a | x in set s & x < b}
   pub filter : Good filter_text filter_tree
   -- its free names are a, s and b, in the order of the text

@@ -6,7 +6,7 @@
 #![tactic(auto)]
 
 ghost use Rattle.grammar.specs.Sentences.{OneTree, OneOutcome, Complete, Sound, FirstBad};
-ghost use Rattle.grammar.specs.Examples.{Examples};
+ghost use Rattle.grammar.specs.Examples.{Examples, OrderExamples};
 ghost use Rattle.grammar.specs.Places.{OwnPlaces};
 ghost use Rattle.grammar.specs.Order.{TextOrder};
 
@@ -47,5 +47,6 @@ pub fn has_own_places()
 
 /// The free names of a tree are listed in the order of the text.
 pub fn has_text_order()
-    ensures { TextOrder }
+    ensures laws { TextOrder }
+    ensures examples { OrderExamples }
 {}
