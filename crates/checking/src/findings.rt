@@ -52,7 +52,7 @@ impl Names {
         }
     }
 
-    pub fn list(&self) -> &[Span]
+    pub(crate) fn list(&self) -> &[Span]
         ensures { result.now ≡ listed self.now }
     {
         let n = self.count.min(NAMES_MAX);
@@ -87,7 +87,7 @@ pub struct Findings {
 
 impl Findings {
     // Nothing found.
-    pub fn none() -> Findings
+    pub(crate) fn none() -> Findings
         ensures { (text : List ℕ) → seen text result ≡ unseen }
     {
         Findings {
@@ -100,7 +100,7 @@ impl Findings {
     }
 
     // An expression or pattern.
-    pub fn node(&mut self, place: usize, level: usize)
+    pub(crate) fn node(&mut self, place: usize, level: usize)
         ensures { (text : List ℕ) → seen text self.new ≡ see_node (node_of place level) (seen text self.old) }
     {
         if level == LEVEL_BEYOND {
@@ -109,7 +109,7 @@ impl Findings {
     }
 
     // A numeral.
-    pub fn numeral(&mut self, text: &[u8], digits: Span)
+    pub(crate) fn numeral(&mut self, text: &[u8], digits: Span)
         ensures { seen text.now self.new ≡ see_number (numeral_of digits.place (valued text.now digits)) (seen text.now self.old) }
     {
         if outside(bytes(text, digits), 0, NUMBER_MAX) {
@@ -118,7 +118,7 @@ impl Findings {
     }
 
     // The numeral of a selection at `place`.
-    pub fn part(&mut self, text: &[u8], place: usize, digits: Span)
+    pub(crate) fn part(&mut self, text: &[u8], place: usize, digits: Span)
         ensures { seen text.now self.new ≡ see_number (part_number place (valued text.now digits)) (seen text.now self.old) }
     {
         if outside(bytes(text, digits), 1, PARTS_MAX) {
@@ -127,7 +127,7 @@ impl Findings {
     }
 
     // A name of a pattern, whose names in sight begin at number `from`.
-    pub fn bound(&mut self, text: &[u8], scope: &Scope, from: usize, name: Span)
+    pub(crate) fn bound(&mut self, text: &[u8], scope: &Scope, from: usize, name: Span)
         ensures { seen text.now self.new ≡ see_bound (bound_of name.place (spelled text.now name) (dropped from (sighted text.now scope.now))) (seen text.now self.old) }
     {
         if among(text, scope.since(from), name) {
@@ -136,7 +136,7 @@ impl Findings {
     }
 
     // A name as an expression: a free one is noted, once.
-    pub fn name(&mut self, text: &[u8], scope: &Scope, name: Span)
+    pub(crate) fn name(&mut self, text: &[u8], scope: &Scope, name: Span)
         ensures { seen text.now self.new ≡ see_name (sighted text.now scope.now) (occurrence text.now name) (seen text.now self.old) }
     {
         if among(text, scope.sight(), name) || among(text, self.free.list(), name) {
@@ -148,7 +148,7 @@ impl Findings {
     }
 
     // The refusal, if there is one.
-    pub fn refusal(&self) -> Option<Refusal>
+    pub(crate) fn refusal(&self) -> Option<Refusal>
         ensures { (text : List ℕ) → result ≡ decided (seen text self.now) }
     {
         if let Some(place) = self.deep {
@@ -166,7 +166,7 @@ impl Findings {
         }
     }
 
-    pub fn free(&self) -> Names
+    pub(crate) fn free(&self) -> Names
         ensures { result ≡ self.now.free }
     {
         self.free

@@ -17,7 +17,7 @@ pub struct Scope {
 
 impl Scope {
     // No names.
-    pub fn empty() -> Scope
+    pub(crate) fn empty() -> Scope
         ensures { sight_of result ≡ [] }
     {
         Scope {
@@ -26,7 +26,7 @@ impl Scope {
         }
     }
 
-    pub fn sight(&self) -> &[Span]
+    pub(crate) fn sight(&self) -> &[Span]
         ensures { result.now ≡ sight_of self.now }
     {
         let n = self.len.min(SIGHT_MAX);
@@ -34,21 +34,21 @@ impl Scope {
     }
 
     // How many.
-    pub fn count(&self) -> usize
+    pub(crate) fn count(&self) -> usize
         ensures { result ≡ length (sight_of self.now) }
     {
         self.sight().len()
     }
 
     // How far a body's end goes back.
-    pub fn mark(&self) -> usize
+    pub(crate) fn mark(&self) -> usize
         ensures { result ≡ self.now.len }
     {
         self.len
     }
 
     // Those behind the first `from`.
-    pub fn since(&self, from: usize) -> &[Span]
+    pub(crate) fn since(&self, from: usize) -> &[Span]
         ensures { result.now ≡ dropped from (sight_of self.now) }
     {
         let sight = self.sight();
@@ -57,7 +57,7 @@ impl Scope {
     }
 
     // One name more, while there is room.
-    pub fn bind(&mut self, name: Span)
+    pub(crate) fn bind(&mut self, name: Span)
         ensures sight { sight_of self.new ≡ (if nat_lt (length (sight_of self.old)) 2048 then sight_of self.old ++ name ∷ [] else sight_of self.old) }
         ensures grew { Grew self.old self.new }
     {

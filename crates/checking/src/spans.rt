@@ -7,7 +7,7 @@ ghost use Rattle.reading.specs.Entries.{spelled};
 use reading::Span;
 
 // The bytes of a part of the text; of a part that reaches past the end, those that are there.
-pub fn bytes(text: &[u8], span: Span) -> &[u8]
+pub(crate) fn bytes(text: &[u8], span: Span) -> &[u8]
     ensures { result.now ≡ spelled text.now span }
 {
     let start = span.place.min(text.len());
@@ -17,7 +17,7 @@ pub fn bytes(text: &[u8], span: Span) -> &[u8]
 }
 
 // Whether one of the names is spelled like this one.
-pub fn among(text: &[u8], names: &[Span], name: Span) -> bool
+pub(crate) fn among(text: &[u8], names: &[Span], name: Span) -> bool
     ensures { result ≡ among_of (spelled text.now name) (map (spelled text.now) names.now) }
 {
     let wanted = bytes(text, name);
@@ -30,7 +30,7 @@ pub fn among(text: &[u8], names: &[Span], name: Span) -> bool
 }
 
 // Whether the number that the digits write is below `least` or above `most`.
-pub fn outside(digits: &[u8], least: u64, most: u64) -> bool
+pub(crate) fn outside(digits: &[u8], least: u64, most: u64) -> bool
     requires { most ≤ 2147483647 }
     ensures { result ≡ (nat_lt (decimal 0 digits.now) least || nat_lt most (decimal 0 digits.now)) }
 {
