@@ -1,5 +1,5 @@
 // A table at three types of element: tree entries, instructions and cells.
-use tables::Table;
+use tables::{Full, Table};
 
 #[derive(Clone, Copy, Debug, PartialEq, Eq)]
 struct Entry {
@@ -34,7 +34,7 @@ fn entries(rt: HostRuntime) {
     assert_eq!(rt; table.remaining(), 2);
     assert!(rt; table.push(EMPTY).is_ok());
     assert!(rt; table.push(leaf).is_ok());
-    assert!(rt; table.push(EMPTY).is_err());
+    assert_eq!(rt; table.push(EMPTY), Err(Full));
     assert_eq!(rt; table.len(), 2);
     assert_eq!(rt; table.get(1), Some(leaf));
     assert_eq!(rt; table.get(2), None);
@@ -61,6 +61,20 @@ fn cells(rt: HostRuntime) {
     assert_eq!(rt; table.capacity(), 4);
     assert!(rt; table.push(1).is_ok());
     assert_eq!(rt; table.items(), [1].as_slice());
+}
+
+#[test]
+fn runs_of_cells(rt: HostRuntime) {
+    let mut slots = [7; 4];
+    let mut table = Table::make(&mut slots);
+    assert!(rt; table.push(1).is_ok());
+    assert!(rt; table.extend_from_slice(&[2, 3]).is_ok());
+    assert_eq!(rt; table.extend_from_slice(&[4, 5]), Err(Full));
+    assert_eq!(rt; table.items(), [1, 2, 3].as_slice());
+    assert_eq!(rt; table.remaining(), 1);
+    assert!(rt; table.extend_from_slice(&[]).is_ok());
+    assert!(rt; table.extend_from_slice(&[4]).is_ok());
+    assert_eq!(rt; table.items(), [1, 2, 3, 4].as_slice());
 }
 
 #[test]

@@ -14,10 +14,7 @@ const EMPTY: Token = Token {
 fn cut(text: &[u8]) -> (Option<Refused>, usize) {
     let mut slots = [EMPTY; 2048];
     let mut tokens = Table::make(&mut slots);
-    let refused = match tokenise(text, &mut tokens) {
-        Ok(()) => None,
-        Err(refusal) => Some(refusal.told()),
-    };
+    let refused = tokenise(text, &mut tokens).err().map(Refused::from);
     (refused, tokens.len())
 }
 

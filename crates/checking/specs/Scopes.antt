@@ -1,22 +1,21 @@
 -- The names in sight.
-use Rattle.std.specs.Prelude.{◌≡◌, ℕ, ◌≤◌, List, map, take}
+use Rattle.std.specs.Prelude.{◌≡◌, ℕ, List, map}
+use Rattle.arrayvec.specs.ArrayVec.{ArrayVec, Extends}
 use Rattle.syntax.specs.Tree.{Name}
 use Rattle.reading.specs.declared.entry.Span.{Span}
 use Rattle.reading.specs.Entries.{spelled}
-use Rattle.checking.specs.declared.scope.Scope.{Scope}
 
-abbrev pub sight : Scope → List Span
-sight s = take s.len s.names
+abbrev pub Scope : Type 0
+Scope = ArrayVec Span
 
 abbrev pub sighted : List ℕ → Scope → List Name
-sighted text s = map (spelled text) (sight s)
+sighted text s = map (spelled text) s.items
 
 -- the names in sight are those from before
-pub record Kept (s s' : Scope) : Type 0 where
-  pub len : s'.len ≡ s.len
-  pub same : sight s' ≡ sight s
+abbrev pub Kept : Scope → Scope → Type 0
+Kept s s' = s'.items ≡ s.items
 
 -- those from before are still there, in front
 pub record Grew (s s' : Scope) : Type 0 where
-  pub len : s.len ≤ s'.len
-  pub below : take s.len s'.names ≡ sight s
+  pub more : List Span
+  pub grown : Extends s more s'

@@ -1,7 +1,7 @@
 // The call: a draft becomes a checked rule.
 
 /// Why a draft is not accepted.
-#[derive(Clone, Copy, Debug)]
+#[derive(Clone, Copy, Debug, PartialEq, Eq)]
 pub enum Refusal {
     /// The expression or pattern at this place is on level 17.
     TooDeep(usize),

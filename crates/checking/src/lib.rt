@@ -3,8 +3,8 @@
 #![tactic(auto)]
 
 mod call;
+mod depth;
 mod findings;
-mod scope;
 mod spans;
 mod walk;
 

@@ -1,19 +1,42 @@
 // Names and numerals, as parts of the text.
-ghost use Rattle.std.specs.Prelude.{◌≡◌, ◌≤◌, ◌||◌, map, nat_lt};
+ghost use Rattle.std.specs.Prelude.{◌≡◌, ◌||◌, map, drop as dropped, nat_lt};
 ghost use Rattle.tokens.specs.Lexeme.{decimal};
 ghost use Rattle.syntax.specs.Names.{among as among_of};
 ghost use Rattle.reading.specs.Entries.{spelled};
 
 use reading::Span;
 
+// The least and the most that a number may be.
+#[derive(Clone, Copy)]
+pub struct Bounds {
+    least: u32,
+    most: u32,
+}
+
+impl Bounds {
+    // Those of a numeral.
+    pub(crate) const NUMERAL: Bounds = Bounds {
+        least: 0,
+        most: 2147483647,
+    };
+
+    // Those of a selection: a tuple has at most eight parts.
+    pub(crate) const PART: Bounds = Bounds { least: 1, most: 8 };
+}
+
 // The bytes of a part of the text; of a part that reaches past the end, those that are there.
 pub(crate) fn bytes(text: &[u8], span: Span) -> &[u8]
     ensures { result.now ≡ spelled text.now span }
 {
-    let start = span.place.min(text.len());
-    let rest = &text[start..];
-    let len = span.len.min(rest.len());
-    &rest[0..len]
+    let rest = text.get(span.place..).unwrap_or_default();
+    rest.get(..span.len).unwrap_or(rest)
+}
+
+// The names from number `from` on.
+pub(crate) fn since(names: &[Span], from: usize) -> &[Span]
+    ensures { result.now ≡ dropped from names.now }
+{
+    names.get(from..).unwrap_or_default()
 }
 
 // Whether one of the names is spelled like this one.
@@ -21,19 +44,14 @@ pub(crate) fn among(text: &[u8], names: &[Span], name: Span) -> bool
     ensures { result ≡ among_of (spelled text.now name) (map (spelled text.now) names.now) }
 {
     let wanted = bytes(text, name);
-    for x in names {
-        if wanted == bytes(text, *x) {
-            return true;
-        }
-    }
-    false
+    names.iter().any(|x| wanted == bytes(text, *x))
 }
 
-// Whether the number that the digits write is below `least` or above `most`.
-pub(crate) fn outside(digits: &[u8], least: u64, most: u64) -> bool
-    requires { most ≤ 2147483647 }
-    ensures { result ≡ (nat_lt (decimal 0 digits.now) least || nat_lt most (decimal 0 digits.now)) }
+// Whether the number that the digits write is outside these bounds.
+pub(crate) fn outside(digits: &[u8], bounds: Bounds) -> bool
+    ensures { result ≡ (nat_lt (decimal 0 digits.now) bounds.least || nat_lt bounds.most (decimal 0 digits.now)) }
 {
+    let most = u64::from(bounds.most);
     let mut value: u64 = 0;
     for d in digits {
         if value > most {
@@ -41,5 +59,5 @@ pub(crate) fn outside(digits: &[u8], least: u64, most: u64) -> bool
         }
         value = 10 * value + u64::from(d.saturating_sub(48));
     }
-    value < least || value > most
+    value < u64::from(bounds.least) || value > most
 }

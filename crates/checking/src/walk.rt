@@ -1,36 +1,23 @@
 // The way through a draft's tree.
-//
-// Each function takes `fuel`, which bounds how many entries deep it goes. Where the entries are those of a tree it is never used up.
-ghost use Rattle.std.specs.Prelude.{◌≡◌, ◌+◌, ◌≤◌, length, slice_index_or};
+ghost use Rattle.std.specs.Prelude.{◌≡◌, [], take, slice_index_or};
+ghost use Rattle.checking.specs.Walk.{unseen};
+ghost use Rattle.checking.specs.Walked.{entry_at, in_sight, noted, Walked, Matched, node_on, number_within, name_at, name_bound, bound_from, pattern_at, patterns_at, tree_at, under_at, filter_at, optional_at, items_at, arms_at, side_at};
 ghost use Rattle.reading.specs.declared.entry.Entry.TheVariants.{Empty};
-ghost use Rattle.checking.specs.Scopes.{sighted};
-ghost use Rattle.checking.specs.Walk.{entry_item, entry_arm, linked, visit_under, visit_optional, visit_filter, visit_arm};
-ghost use Rattle.checking.specs.Walked.{text_of, reach, Walked, Matched, armed, item as item_of, arm as arm_of};
 
+use crate::depth::Depth;
 use crate::findings::Findings;
-use crate::scope::{Body, Scope};
+use crate::spans::{Bounds, since};
+use arrayvec::ArrayVec;
 use reading::{Entry, Span};
+
+// The most names that can be in sight: each has an expression or a pattern of its own.
+const SIGHT_MAX: usize = 2048;
 
 // A draft's text and entries.
 #[derive(Clone, Copy)]
-pub struct Source<'a> {
-    pub text: &'a [u8],
-    pub entries: &'a [Entry],
-}
-
-// A member or part, and the link to the next.
-#[derive(Clone, Copy)]
-struct Item {
-    node: usize,
-    next: Option<usize>,
-}
-
-// An alternative, and the link to the next.
-#[derive(Clone, Copy)]
-struct Arm {
-    pattern: usize,
-    right: usize,
-    next: Option<usize>,
+pub struct Source<'s> {
+    pub text: &'s [u8],
+    pub entries: &'s [Entry],
 }
 
 impl Source<'_> {
@@ -38,364 +25,335 @@ impl Source<'_> {
     fn entry(&self, at: usize) -> Entry
         ensures { result ≡ slice_index_or self.now.entries.now at Empty }
     {
-        if at < self.entries.len() {
-            self.entries[at]
-        } else {
-            Entry::Empty
-        }
+        self.entries.get(at).copied().unwrap_or(Entry::Empty)
     }
 
-    fn item(&self, link: Option<usize>) -> Option<Item>
-        ensures { item_of result ≡ linked self.now.entries.now entry_item link }
+    // The entry that a link names; with no link, an empty one.
+    fn linked(&self, link: Option<usize>) -> Entry
+        ensures { result ≡ entry_at self.now.entries.now link }
     {
-        let Some(at) = link else {
-            return None;
-        };
-        match self.entry(at) {
-            Entry::Item { node, next } => Some(Item { node, next }),
-            _ => None,
+        match link {
+            Some(at) => self.entry(at),
+            None => Entry::Empty,
         }
     }
+}
 
-    fn arm(&self, link: Option<usize>) -> Option<Arm>
-        ensures { arm_of result ≡ linked self.now.entries.now entry_arm link }
+// A walk through a draft: the names in sight, the nearest binding last, and what was found.
+#[derive(Drop)]
+pub struct Walk<'s> {
+    pub src: Source<'s>,
+    pub scope: ArrayVec<Span, SIGHT_MAX>,
+    pub found: Findings,
+}
+
+// The names that are bound for a body: at its end, however it ends, those from before are in sight again.
+struct Body<'w, 's> {
+    walk: &'w mut Walk<'s>,
+    from: usize,
+}
+
+impl Drop for Body<'_, '_> {
+    fn drop(self)
+        ensures src { self.exit.0.now.src ≡ self.entry.walk.now.src }
+        ensures scope { self.exit.0.now.scope.items ≡ take self.entry.from self.entry.walk.now.scope.items }
+        ensures found { self.exit.0.now.found ≡ self.entry.walk.now.found }
     {
-        let Some(at) = link else {
-            return None;
+        let Body { walk, from } = self;
+        walk.scope.truncate(from);
+    }
+}
+
+impl<'s> Walk<'s> {
+    // Nothing is in sight, and nothing found.
+    pub(crate) fn new(src: Source<'s>) -> Walk<'s>
+        ensures src { result.src ≡ src.entry }
+        ensures sight { in_sight result ≡ [] }
+        ensures found { noted result ≡ unseen }
+    {
+        Walk {
+            src,
+            scope: ArrayVec::new(),
+            found: Findings::default(),
+        }
+    }
+
+    // An expression or pattern.
+    fn node(&mut self, place: usize, level: usize)
+        ensures { Walked self.old self.new (node_on place level) }
+    {
+        self.found.node(place, level);
+    }
+
+    // A number that the text states.
+    fn number(&mut self, place: usize, digits: Span, bounds: Bounds)
+        ensures { Walked self.old self.new (number_within place digits bounds) }
+    {
+        self.found.number(self.src.text, place, digits, bounds);
+    }
+
+    // A name as an expression.
+    fn name(&mut self, name: Span)
+        ensures { Walked self.old self.new (name_at name) }
+    {
+        self.found.name(self.src.text, &self.scope, name);
+    }
+
+    // One name more in sight, while there is room.
+    fn bind(&mut self, name: Span)
+        ensures { Matched self.old self.new (name_bound name) }
+    {
+        if !self.scope.is_full() {
+            self.scope.push(name);
+        }
+    }
+
+    // A name of a pattern, whose names are in sight from number `from` on.
+    fn bound(&mut self, from: usize, name: Span)
+        ensures { Matched self.old self.new (bound_from from name) }
+    {
+        let earlier = since(&self.scope, from);
+        self.found.bound(self.src.text, earlier, name);
+        self.bind(name);
+    }
+
+    // A pattern, whose names are in sight from number `from` on.
+    #[cycle(pattern)]
+    fn pattern(&mut self, from: usize, at: usize, depth: Depth)
+        ensures { Matched self.old self.new (pattern_at from at depth.fuel depth.level) }
+    {
+        let Some(inner) = depth.deeper() else {
+            return;
         };
-        match self.entry(at) {
-            Entry::Alternative {
-                pattern,
+        match self.src.entry(at) {
+            Entry::AnyPattern { place } | Entry::TruthPattern { place, .. } => {
+                self.node(place, depth.level);
+            }
+            Entry::NamePattern(name) => {
+                self.node(name.place, depth.level);
+                self.bound(from, name);
+            }
+            Entry::NumeralPattern(digits) => {
+                self.node(digits.place, depth.level);
+                self.number(digits.place, digits, Bounds::NUMERAL);
+            }
+            Entry::PartsPattern { place, first, .. } => {
+                self.node(place, depth.level);
+                self.patterns(from, first, inner);
+            }
+            _ => {}
+        }
+    }
+
+    // The parts of a pattern, from a link on.
+    #[cycle(pattern)]
+    fn patterns(&mut self, from: usize, link: Option<usize>, depth: Depth)
+        ensures { Matched self.old self.new (patterns_at from link depth.fuel depth.level) }
+    {
+        let Some(rest) = depth.further() else {
+            return;
+        };
+        let Entry::Item { node, next } = self.src.linked(link) else {
+            return;
+        };
+        self.pattern(from, node, rest);
+        self.patterns(from, next, rest);
+    }
+
+    // An expression.
+    #[cycle(expression)]
+    fn expression(&mut self, at: usize, depth: Depth)
+        ensures { Walked self.old self.new (tree_at at depth.fuel depth.level) }
+    {
+        let Some(inner) = depth.deeper() else {
+            return;
+        };
+        match self.src.entry(at) {
+            Entry::Numeral(digits) => {
+                self.node(digits.place, depth.level);
+                self.number(digits.place, digits, Bounds::NUMERAL);
+            }
+            Entry::Truth { place, .. } => self.node(place, depth.level),
+            Entry::Name(name) => {
+                self.node(name.place, depth.level);
+                self.name(name);
+            }
+            Entry::Unary { place, operand, .. } => {
+                self.node(place, depth.level);
+                self.expression(operand, inner);
+            }
+            Entry::Binary {
+                place,
+                left,
                 right,
-                next,
-            } => Some(Arm {
-                pattern,
+                ..
+            }
+            | Entry::Connective {
+                place,
+                left,
                 right,
-                next,
-            }),
-            _ => None,
+                ..
+            }
+            | Entry::Range {
+                place,
+                start: left,
+                end: right,
+            } => {
+                self.node(place, depth.level);
+                self.expression(left, inner);
+                self.expression(right, inner);
+            }
+            Entry::If {
+                place,
+                test,
+                then,
+                otherwise,
+            } => {
+                self.node(place, depth.level);
+                self.expression(test, inner);
+                self.expression(then, inner);
+                self.expression(otherwise, inner);
+            }
+            Entry::Let {
+                place,
+                name,
+                value: given,
+                body,
+            }
+            | Entry::Quantifier {
+                place,
+                name,
+                set: given,
+                body,
+                ..
+            } => {
+                self.node(place, depth.level);
+                self.expression(given, inner);
+                self.under(name, body, inner);
+            }
+            Entry::LetBe {
+                place,
+                name,
+                set,
+                condition,
+                body,
+            } => {
+                self.node(place, depth.level);
+                self.expression(set, inner);
+                self.under(name, condition, inner);
+                self.under(name, body, inner);
+            }
+            Entry::Cases {
+                place,
+                subject,
+                first,
+                others,
+            } => {
+                self.node(place, depth.level);
+                self.expression(subject, inner);
+                self.arms(Some(first), inner);
+                self.optional(others, inner);
+            }
+            Entry::Collection { place, first, .. } => {
+                self.node(place, depth.level);
+                self.items(first, inner);
+            }
+            Entry::Comprehension {
+                place,
+                member,
+                name,
+                set,
+                condition,
+                ..
+            } => {
+                self.node(place, depth.level);
+                self.under(name, member, inner);
+                self.expression(set, inner);
+                self.filter(name, condition, inner);
+            }
+            Entry::Selection { place, tuple, part } => {
+                self.node(place, depth.level);
+                self.number(place, part, Bounds::PART);
+                self.expression(tuple, inner);
+            }
+            _ => {}
         }
     }
-}
 
-// A pattern, whose names are in sight from number `from` on.
-#[cycle(pattern)]
-fn pattern(
-    src: &Source<'_>,
-    fuel: usize,
-    from: usize,
-    at: usize,
-    level: usize,
-    scope: &mut Scope,
-    found: &mut Findings,
-)
-    requires { level + fuel ≤ 4097 }
-    ensures { Matched src.now scope.old scope.new found.old found.new ((reach src.now fuel).pattern from at level) }
-{
-    if fuel == 0 {
-        return;
+    // An expression in which one more name is in sight.
+    #[cycle(expression)]
+    fn under(&mut self, name: Span, at: usize, depth: Depth)
+        ensures { Walked self.old self.new (under_at name at depth.fuel depth.level) }
+    {
+        let from = self.scope.len();
+        let body = Body { walk: self, from };
+        body.walk.bind(name);
+        body.walk.expression(at, depth);
     }
-    match src.entry(at) {
-        Entry::AnyPattern { place } => found.node(place, level),
-        Entry::NamePattern(name) => {
-            found.node(name.place, level);
-            found.bound(src.text, scope, from, name);
-            scope.bind(name);
-        }
-        Entry::NumeralPattern(digits) => {
-            found.node(digits.place, level);
-            found.numeral(src.text, digits);
-        }
-        Entry::TruthPattern { place, .. } => found.node(place, level),
-        Entry::PartsPattern { place, first, .. } => {
-            found.node(place, level);
-            patterns(src, fuel - 1, from, first, level + 1, scope, found);
-        }
-        _ => {}
-    }
-}
 
-// The parts of a pattern, from a link on.
-#[cycle(pattern)]
-fn patterns(
-    src: &Source<'_>,
-    fuel: usize,
-    from: usize,
-    link: Option<usize>,
-    level: usize,
-    scope: &mut Scope,
-    found: &mut Findings,
-)
-    requires { level + fuel ≤ 4097 }
-    ensures { Matched src.now scope.old scope.new found.old found.new ((reach src.now fuel).patterns from link level) }
-{
-    if fuel == 0 {
-        return;
+    // The condition of a comprehension, if it has one: the name is in sight there.
+    #[cycle(expression)]
+    fn filter(&mut self, name: Span, condition: Option<usize>, depth: Depth)
+        ensures { Walked self.old self.new (filter_at name condition depth.fuel depth.level) }
+    {
+        if let Some(at) = condition {
+            self.under(name, at, depth);
+        }
     }
-    let Some(item) = src.item(link) else {
-        return;
-    };
-    pattern(src, fuel - 1, from, item.node, level, scope, found);
-    patterns(src, fuel - 1, from, item.next, level, scope, found);
-}
 
-// An expression.
-#[cycle(expression)]
-fn expression(
-    src: &Source<'_>,
-    fuel: usize,
-    at: usize,
-    level: usize,
-    scope: &mut Scope,
-    found: &mut Findings,
-)
-    requires { level + fuel ≤ 4097 }
-    ensures { Walked src.now scope.old scope.new found.old found.new ((reach src.now fuel).tree at level) }
-{
-    if fuel == 0 {
-        return;
+    // What may be absent.
+    #[cycle(expression)]
+    fn optional(&mut self, link: Option<usize>, depth: Depth)
+        ensures { Walked self.old self.new (optional_at link depth.fuel depth.level) }
+    {
+        if let Some(at) = link {
+            self.expression(at, depth);
+        }
     }
-    let fuel = fuel - 1;
-    let deeper = level + 1;
-    match src.entry(at) {
-        Entry::Numeral(digits) => {
-            found.node(digits.place, level);
-            found.numeral(src.text, digits);
-        }
-        Entry::Truth { place, .. } => found.node(place, level),
-        Entry::Name(name) => {
-            found.node(name.place, level);
-            found.name(src.text, scope, name);
-        }
-        Entry::Unary { place, operand, .. } => {
-            found.node(place, level);
-            expression(src, fuel, operand, deeper, scope, found);
-        }
-        Entry::Binary {
-            place,
-            left,
+
+    // Members or parts, from a link on.
+    #[cycle(expression)]
+    fn items(&mut self, link: Option<usize>, depth: Depth)
+        ensures { Walked self.old self.new (items_at link depth.fuel depth.level) }
+    {
+        let Some(rest) = depth.further() else {
+            return;
+        };
+        let Entry::Item { node, next } = self.src.linked(link) else {
+            return;
+        };
+        self.expression(node, rest);
+        self.items(next, rest);
+    }
+
+    // Alternatives, from a link on.
+    #[cycle(expression)]
+    fn arms(&mut self, link: Option<usize>, depth: Depth)
+        ensures { Walked self.old self.new (arms_at link depth.fuel depth.level) }
+    {
+        let Some(rest) = depth.further() else {
+            return;
+        };
+        let Entry::Alternative {
+            pattern,
             right,
-            ..
-        } => {
-            found.node(place, level);
-            expression(src, fuel, left, deeper, scope, found);
-            expression(src, fuel, right, deeper, scope, found);
-        }
-        Entry::Connective {
-            place,
-            left,
-            right,
-            ..
-        } => {
-            found.node(place, level);
-            expression(src, fuel, left, deeper, scope, found);
-            expression(src, fuel, right, deeper, scope, found);
-        }
-        Entry::If {
-            place,
-            test,
-            then,
-            otherwise,
-        } => {
-            found.node(place, level);
-            expression(src, fuel, test, deeper, scope, found);
-            expression(src, fuel, then, deeper, scope, found);
-            expression(src, fuel, otherwise, deeper, scope, found);
-        }
-        Entry::Let {
-            place,
-            name,
-            value,
-            body,
-        } => {
-            found.node(place, level);
-            expression(src, fuel, value, deeper, scope, found);
-            under(src, fuel, name, body, deeper, scope, found);
-        }
-        Entry::LetBe {
-            place,
-            name,
-            set,
-            condition,
-            body,
-        } => {
-            found.node(place, level);
-            expression(src, fuel, set, deeper, scope, found);
-            under(src, fuel, name, condition, deeper, scope, found);
-            under(src, fuel, name, body, deeper, scope, found);
-        }
-        Entry::Cases {
-            place,
-            subject,
-            first,
-            others,
-        } => {
-            found.node(place, level);
-            expression(src, fuel, subject, deeper, scope, found);
-            arms(src, fuel, Some(first), deeper, scope, found);
-            optional(src, fuel, others, deeper, scope, found);
-        }
-        Entry::Quantifier {
-            place,
-            name,
-            set,
-            body,
-            ..
-        } => {
-            found.node(place, level);
-            expression(src, fuel, set, deeper, scope, found);
-            under(src, fuel, name, body, deeper, scope, found);
-        }
-        Entry::Collection { place, first, .. } => {
-            found.node(place, level);
-            items(src, fuel, first, deeper, scope, found);
-        }
-        Entry::Range { place, start, end } => {
-            found.node(place, level);
-            expression(src, fuel, start, deeper, scope, found);
-            expression(src, fuel, end, deeper, scope, found);
-        }
-        Entry::Comprehension {
-            place,
-            member,
-            name,
-            set,
-            condition,
-            ..
-        } => {
-            found.node(place, level);
-            under(src, fuel, name, member, deeper, scope, found);
-            expression(src, fuel, set, deeper, scope, found);
-            filter(src, fuel, name, condition, deeper, scope, found);
-        }
-        Entry::Selection { place, tuple, part } => {
-            found.node(place, level);
-            found.part(src.text, place, part);
-            expression(src, fuel, tuple, deeper, scope, found);
-        }
-        _ => {}
+            next,
+        } = self.src.linked(link)
+        else {
+            return;
+        };
+        self.side(pattern, right, rest);
+        self.arms(next, rest);
     }
-}
 
-// An expression in which one more name is in sight.
-#[cycle(expression)]
-fn under(
-    src: &Source<'_>,
-    fuel: usize,
-    name: Span,
-    at: usize,
-    level: usize,
-    scope: &mut Scope,
-    found: &mut Findings,
-)
-    requires { level + fuel ≤ 4097 }
-    ensures { Walked src.now scope.old scope.new found.old found.new (visit_under (text_of src.now) (reach src.now fuel) name at level) }
-{
-    let from = scope.mark();
-    let body = Body { scope, from };
-    body.scope.bind(name);
-    expression(src, fuel, at, level, body.scope, found);
-}
-
-// The condition of a comprehension, if it has one: the name is in sight there.
-#[cycle(expression)]
-fn filter(
-    src: &Source<'_>,
-    fuel: usize,
-    name: Span,
-    condition: Option<usize>,
-    level: usize,
-    scope: &mut Scope,
-    found: &mut Findings,
-)
-    requires { level + fuel ≤ 4097 }
-    ensures { Walked src.now scope.old scope.new found.old found.new (visit_filter (text_of src.now) (reach src.now fuel) name condition level) }
-{
-    if let Some(at) = condition {
-        under(src, fuel, name, at, level, scope, found);
+    // A pattern, and the right side, in which its names are in sight.
+    #[cycle(expression)]
+    fn side(&mut self, pattern: usize, right: usize, depth: Depth)
+        ensures { Walked self.old self.new (side_at pattern right depth.fuel depth.level) }
+    {
+        let from = self.scope.len();
+        let body = Body { walk: self, from };
+        body.walk.pattern(from, pattern, depth);
+        body.walk.expression(right, depth);
     }
-}
-
-// What may be absent.
-#[cycle(expression)]
-fn optional(
-    src: &Source<'_>,
-    fuel: usize,
-    link: Option<usize>,
-    level: usize,
-    scope: &mut Scope,
-    found: &mut Findings,
-)
-    requires { level + fuel ≤ 4097 }
-    ensures { Walked src.now scope.old scope.new found.old found.new (visit_optional (text_of src.now) (reach src.now fuel) link level) }
-{
-    if let Some(at) = link {
-        expression(src, fuel, at, level, scope, found);
-    }
-}
-
-// Members or parts, from a link on.
-#[cycle(expression)]
-fn items(
-    src: &Source<'_>,
-    fuel: usize,
-    link: Option<usize>,
-    level: usize,
-    scope: &mut Scope,
-    found: &mut Findings,
-)
-    requires { level + fuel ≤ 4097 }
-    ensures { Walked src.now scope.old scope.new found.old found.new ((reach src.now fuel).items link level) }
-{
-    if fuel == 0 {
-        return;
-    }
-    let Some(item) = src.item(link) else {
-        return;
-    };
-    expression(src, fuel - 1, item.node, level, scope, found);
-    items(src, fuel - 1, item.next, level, scope, found);
-}
-
-// Alternatives, from a link on.
-#[cycle(expression)]
-fn arms(
-    src: &Source<'_>,
-    fuel: usize,
-    link: Option<usize>,
-    level: usize,
-    scope: &mut Scope,
-    found: &mut Findings,
-)
-    requires { level + fuel ≤ 4097 }
-    ensures { Walked src.now scope.old scope.new found.old found.new ((reach src.now fuel).arms link level) }
-{
-    if fuel == 0 {
-        return;
-    }
-    let Some(arm) = src.arm(link) else {
-        return;
-    };
-    side(src, fuel - 1, arm, level, scope, found);
-    arms(src, fuel - 1, arm.next, level, scope, found);
-}
-
-// A pattern, and the right side, in which its names are in sight.
-#[cycle(expression)]
-fn side(
-    src: &Source<'_>,
-    fuel: usize,
-    arm: Arm,
-    level: usize,
-    scope: &mut Scope,
-    found: &mut Findings,
-)
-    requires { level + fuel ≤ 4097 }
-    ensures { Walked src.now scope.old scope.new found.old found.new (visit_arm (text_of src.now) (reach src.now fuel) (armed arm) level) }
-{
-    let first = scope.count();
-    let from = scope.mark();
-    let body = Body { scope, from };
-    pattern(src, fuel, first, arm.pattern, level, body.scope, found);
-    expression(src, fuel, arm.right, level, body.scope, found);
 }

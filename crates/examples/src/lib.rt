@@ -11,26 +11,17 @@ mod tests {
 
     // Whether a call told these cells.
     fn told(r: Result<usize, Fault>, out: &[i32; 200], want: &[i32]) -> bool {
-        match r {
-            Ok(n) if n <= 200 => values::compare(&out[0..n], want).is_eq(),
-            _ => false,
-        }
+        r.is_ok_and(|n| out.get(..n) == Some(want))
     }
 
     // How many cells a call told: 0 beside a fault.
     fn length(r: Result<usize, Fault>) -> usize {
-        match r {
-            Ok(n) => n,
-            Err(_) => 0,
-        }
+        r.unwrap_or(0)
     }
 
     // Whether a call told the fault with this number.
     fn fault(r: Result<usize, Fault>, want: u8) -> bool {
-        match r {
-            Ok(_) => false,
-            Err(e) => e.number() == want,
-        }
+        r.is_err_and(|e| e.number() == want)
     }
 
     fn one(op: Unary, a: &[i32], want: &[i32]) -> bool {
@@ -144,12 +135,12 @@ mod tests {
         assert!(rt; fault(operations::select(1, &[0, 5], &mut out), 20));
         let mut set = [2, 2, 0, 1, 0, 3, 0, 2];
         assert!(rt; length(operations::grow(&mut set, 6)) == 8);
-        assert!(rt; values::compare(&set, &[2, 3, 0, 1, 0, 2, 0, 3]).is_eq());
+        assert_eq!(rt; set, [2, 3, 0, 1, 0, 2, 0, 3]);
         let mut same = [2, 2, 0, 1, 0, 3, 0, 3];
         assert!(rt; length(operations::grow(&mut same, 6)) == 6);
         let mut row = [3, 1, 0, 9, 0, 2];
         assert!(rt; length(operations::grow(&mut row, 4)) == 6);
-        assert!(rt; values::compare(&row, &[3, 2, 0, 9, 0, 2]).is_eq());
+        assert_eq!(rt; row, [3, 2, 0, 9, 0, 2]);
     }
 
     #[test]

@@ -1,12 +1,15 @@
 -- Cells that pass the tests are a value, and a value's cells pass them.
-use Rattle.std.proofs.Common.{◌≡◌, ℕ, zero, suc, ◌+◌, ◌-◌, ◌<◌, ◌≤◌, Bool, true, false, ◌&&◌, eqb, ◌⊎◌, List, [], ◌∷◌, ◌++◌, length, get_or, take, drop, ℤ, pos, negsuc, sym, refl, ap, ◌∙◌, inl, inr, true≢false, zero-add, arith, ltb-true, eq-eqb, ne_eqb}
+use Rattle.std.proofs.Common.{◌≡◌, ℕ, zero, suc, ◌+◌, ◌-◌, ◌<◌, ◌≤◌, Bool, true, false, ◌&&◌, ◌⊎◌, List, [], ◌∷◌, ◌++◌, length, get_or, take, drop, ℤ, pos, negsuc, sym, refl, ap, ◌∙◌, inl, inr, true≢false, zero-add, arith, ltb-true}
 use mathlib.Core.Bool.{and-false}
-use native.Mathlib.Decide.{ℕ_discrete}
-use Rattle.std.proofs.lemmas.List.{length-take-le, length-drop, take-append-drop, drop_more, drop_all}
+use Rattle.std.proofs.lemmas.Bool.{le-ltb}
+use Rattle.std.proofs.lemmas.List.{length-take-le, length-drop, take-append-drop}
 use Rattle.std.specs.Ordering.{is_lt}
 use Rattle.syntax.specs.declared.Collection.{Collection}
 use Rattle.syntax.specs.declared.Collection.TheVariants.{Set, Sequence, Tuple}
 use Rattle.values.specs.Value.{Value, number, truth, many, Values, none, more, code, bit, count, onto, ontos, cells, list, pack, row, of, within, past, front, by_cells, compare}
+use Rattle.values.specs.declared.kinds.Kind.{Kind}
+use Rattle.values.specs.declared.kinds.Kind.TheVariants.{Number, Truth, Set as KSet, Sequence as KSequence, Tuple as KTuple}
+use Rattle.values.specs.Kinds.{cell}
 use Rattle.values.proofs.Laws.{front_first, past_first}
 use Rattle.values.specs.Lawful.{ascending, is_in_order, ranged, rangeds, ordered, ordereds, Lawful}
 use Rattle.lawful.specs.Shape.{valid, shape, ascends, members, sorted}
@@ -171,36 +174,17 @@ shape_long (suc n) (k ∷ []) h = refl
 shape_long (suc n) (k ∷ c ∷ xs) h =
     ap (λ b. valid k c && b) (shape_long (within k c + n) xs (let l : length xs < within k c + n = omega arith in l)) ∙ and-false (valid k c)
 
-pub shape_step : (p i m : ℕ) (xs : List ℤ) (d : ℤ) → 0 < p → i + 1 < length xs → m ≡ within (get_or xs i d) (get_or xs (i + 1) d) → shape p (drop i xs) ≡ (valid (get_or xs i d) (get_or xs (i + 1) d) && shape (p - 1 + m) (drop (i + 2) xs))
-shape_step zero i m xs d h l e = absurd (omega arith)
-shape_step (suc n) i m xs d h l e =
-    let h0 : i < length xs = omega arith in
-    let a = drop_more xs i d h0 in
-    let b = drop_more xs (i + 1) d l in
-    let f : drop (i + 1 + 1) xs ≡ drop (i + 2) xs = ap (λ j. drop j xs) (omega arith) in
-    let g : drop i xs ≡ get_or xs i d ∷ get_or xs (i + 1) d ∷ drop (i + 2) xs = cc in
-    let k : within (get_or xs i d) (get_or xs (i + 1) d) + n ≡ suc n - 1 + m = omega (arith, e) in
-    ap (shape (suc n)) g ∙ ap (λ q. valid (get_or xs i d) (get_or xs (i + 1) d) && shape q (drop (i + 2) xs)) k
+pub shape_step : (p m : ℕ) (xs : List ℤ) (d : ℤ) → 0 < p → 2 ≤ length xs → m ≡ within (get_or xs 0 d) (get_or xs 1 d) → shape p xs ≡ (valid (get_or xs 0 d) (get_or xs 1 d) && shape (p - 1 + m) (drop 2 xs))
+shape_step zero m xs d h l e = absurd (omega arith)
+shape_step (suc n) m [] d h l e = absurd (omega arith)
+shape_step (suc n) m (k ∷ []) d h l e = absurd (omega arith)
+shape_step (suc n) m (k ∷ c ∷ xs) d h l e = ap (λ b. valid k c && b) (shape_eq xs (let f : within k c + n ≡ suc n - 1 + m = omega (arith, e) in f))
 
-shape_rest : (xs : List ℤ) → 0 < length xs → shape 0 xs ≡ false
-shape_rest [] h = absurd (omega arith)
-shape_rest (x ∷ xs) h = refl
-
-shape_one : (n : ℕ) (xs : List ℤ) → 0 < n → length xs ≤ 1 → shape n xs ≡ false
-shape_one zero xs h l = absurd (omega arith)
-shape_one (suc n) [] h l = refl
-shape_one (suc n) (k ∷ []) h l = refl
-shape_one (suc n) (k ∷ c ∷ xs) h l = absurd (omega arith)
-
-pub shape_all : (i : ℕ) (xs : List ℤ) → i ≡ length xs → shape 0 (drop i xs) ≡ true
-shape_all i xs e = ap (shape 0) (drop_all i xs (omega arith))
-
-pub shape_more : (i : ℕ) (xs : List ℤ) → i < length xs → shape 0 (drop i xs) ≡ false
-shape_more i xs h = shape_rest (drop i xs) (omega (arith, length-drop i xs))
-
-pub shape_stop : (n i : ℕ) (xs : List ℤ) → 0 < n → (length xs ≤ i + 1) ⊎ (length xs < n) → shape n (drop i xs) ≡ false
-shape_stop n i xs h (inl l) = shape_one n (drop i xs) h (omega (arith, length-drop i xs))
-shape_stop n i xs h (inr l) = shape_long n (drop i xs) (omega (arith, length-drop i xs))
+-- too few values are asked for, or too many
+pub shape_stop : (n : ℕ) (xs : List ℤ) → 2 ≤ length xs → (n ≡ 0) ⊎ (length xs < n) → shape n xs ≡ false
+shape_stop n [] l h = absurd (omega arith)
+shape_stop n (k ∷ xs) l (inl e) = shape_eq (k ∷ xs) e
+shape_stop n xs l (inr h) = shape_long n xs h
 
 pub ascends_step : (n : ℕ) (xs : List ℤ) → 1 < n → ascends n xs ≡ (is_lt (by_cells (front xs) (front (past 1 xs))) && ascends (n - 1) (past 1 xs))
 ascends_step zero xs h = absurd (omega arith)
@@ -222,9 +206,13 @@ sorted_step [] d h = absurd (omega arith)
 sorted_step (k ∷ []) d h = absurd (omega arith)
 sorted_step (k ∷ c ∷ xs) d h = refl
 
-pub shape_at_end : (i : ℕ) (xs : List ℤ) → i ≤ length xs → shape 0 (drop i xs) ≡ eqb i (length xs)
-shape_at_end i xs h = go (ℕ_discrete i (length xs))
-  where
-    go : Dec (i ≡ length xs) → shape 0 (drop i xs) ≡ eqb i (length xs)
-    go (yes e) = shape_all i xs e ∙ sym (eq-eqb i (length xs) e)
-    go (no e) = shape_more i xs (omega arith) ∙ sym (ne_eqb i (length xs) e)
+-- a cell of no kind begins no value
+pub no_kind : (z c : ℤ) → ((k : Kind) → cell k ≡ z → ⊥) → valid z c ≡ false
+no_kind (pos zero) c h = absurd (h Number refl)
+no_kind (pos (suc zero)) c h = absurd (h Truth refl)
+no_kind (pos (suc (suc zero))) c h = absurd (h KSet refl)
+no_kind (pos (suc (suc (suc zero)))) c h = absurd (h KSequence refl)
+no_kind (pos (suc (suc (suc (suc zero))))) c h = absurd (h KTuple refl)
+no_kind (pos (suc (suc (suc (suc (suc k)))))) (pos n) h = le-ltb (suc (suc (suc k))) 3 (omega arith)
+no_kind (pos (suc (suc (suc (suc (suc k)))))) (negsuc n) h = refl
+no_kind (negsuc k) c h = refl

@@ -7,15 +7,17 @@ ghost use Rattle.values.specs.Value.{Value, cells};
 ghost use Rattle.values.specs.Lawful.{Lawful};
 ghost use Rattle.lawful.specs.Shape.{valid as valid_pair, shape as shape_of, ascends as ascends_of, members as members_of, sorted as sorted_of};
 
+use values::{Kind, NoKind};
+
 /// Whether a pair of cells can begin a value.
 fn valid(kind: i32, content: i32) -> bool
     ensures { result ≡ valid_pair kind content }
 {
-    match kind {
-        0 => content != i32::MIN,
-        1 => content == 0 || content == 1,
-        2 | 3 | 4 => content >= 0,
-        _ => false,
+    match Kind::try_from(kind) {
+        Ok(Kind::Number) => content != i32::MIN,
+        Ok(Kind::Truth) => content == 0 || content == 1,
+        Ok(Kind::Set | Kind::Sequence | Kind::Tuple) => content >= 0,
+        Err(NoKind) => false,
     }
 }
 
@@ -23,16 +25,20 @@ fn valid(kind: i32, content: i32) -> bool
 fn shape(s: &[i32]) -> bool
     ensures { result ≡ shape_of 1 s.now }
 {
-    let mut at: usize = 0;
+    let mut rest = s;
     let mut pending: usize = 1;
-    while at + 1 < s.len() && pending > 0 && pending <= s.len() {
-        if !valid(s[at], s[at + 1]) {
+    while let [kind, content, more @ ..] = rest {
+        // none is to come, or more than there are cells
+        if pending == 0 || pending > rest.len() {
             return false;
         }
-        pending = pending - 1 + values::members(s[at], s[at + 1]);
-        at += 2;
+        if !valid(*kind, *content) {
+            return false;
+        }
+        pending = pending - 1 + values::members(*kind, *content);
+        rest = more;
     }
-    pending == 0 && at == s.len()
+    pending == 0 && rest.is_empty()
 }
 
 /// Whether the first `n` values of `s` ascend.
@@ -40,15 +46,13 @@ fn ascends(n: usize, s: &[i32]) -> bool
     ensures { result ≡ ascends_of n s.now }
 {
     let mut rest = s;
-    let mut left = n;
-    while left > 1 {
+    for _ in 1..n {
         let (x, more) = values::split(rest);
         let (y, _) = values::split(more);
         if !values::compare(x, y).is_lt() {
             return false;
         }
         rest = more;
-        left -= 1;
     }
     true
 }
@@ -57,11 +61,7 @@ fn ascends(n: usize, s: &[i32]) -> bool
 fn inner(kind: i32, content: i32, s: &[i32]) -> bool
     ensures { result ≡ members_of kind content s.now }
 {
-    if kind == 2 {
-        ascends(values::members(2, content), s)
-    } else {
-        true
-    }
+    kind != Kind::Set as i32 || ascends(values::members(kind, content), s)
 }
 
 /// Whether each set in the cells ascends.
@@ -83,11 +83,5 @@ pub fn lawful(s: &[i32]) -> bool
     ensures value { result ≡ true → (v : Value) × (s.now ≡ cells v) × Lawful v }
     ensures every { (v : Value) → s.now ≡ cells v → Lawful v → result ≡ true }
 {
-    if s.len() > 200 {
-        return false;
-    }
-    if !shape(s) {
-        return false;
-    }
-    sorted(s)
+    s.len() <= 200 && shape(s) && sorted(s)
 }

@@ -1,12 +1,12 @@
 -- In the tree of a text no two `let be` stand at one place: each has the place of a token of its own, and the places of tokens rise.
-use Rattle.std.proofs.Common.{◌≡◌, ℕ, suc, ◌+◌, ◌≤◌, List, [], ◌∷◌, ◌++◌, map, None, Option, sym, refl, ap, ◌∙◌, subst, inl, inr, arith}
+use Rattle.std.proofs.Common.{◌≡◌, ℕ, suc, ◌+◌, ◌≤◌, List, [], ◌∷◌, ◌++◌, map, None, Option, sym, refl, ap, ◌∙◌, subst, inl, inr, arith, append_assoc}
 use Rattle.tokens.specs.declared.Token.{Token}
 use Rattle.tokens.specs.Lexeme.{Lexeme, lexeme}
 use Rattle.tokens.specs.Pieces.{Cut, at_end, at_separator, at_comment, at_token, at_bad}
 use Rattle.tokens.proofs.Forms.{longest_some}
 use Rattle.grammar.specs.Grammar.{Operation, strict, deciding, join, Sort, expr, Derives, DerivesBind, DerivesItems, DerivesCases, d_let, d_let_be, d_if, d_cases, d_quantifier, d_connected, d_else, d_elseif, d_chain, d_link, d_implies, d_premise, d_prefix, d_bare, d_relation, d_in_set, d_not_in_set, d_side, d_apply, d_select, d_atom, d_numeral, d_truth, d_name, d_paren, d_empty, d_members, d_comprehension, d_filter, d_range, d_tuple, d_bind, d_last, d_more, d_only, d_others, d_next}
 use Rattle.syntax.specs.Tree.{Place, Name, Tree, Trees, Alternatives, Optional}
-use Rattle.meaning.specs.Names.{In}
+use Rattle.syntax.specs.Names.{In}
 use Rattle.meaning.specs.Parts.{Site, sites, sites_all, sites_in, sites_of, Apart}
 
 -- the sites stand at the places of some of the lexemes, in their order
@@ -40,10 +40,6 @@ plus_none (keep x u e a) = keep x u e (plus_none a)
 
 moved : {xs ys : List Site} {us : List Lexeme} → xs ≡ ys → Sub xs us → Sub ys us
 moved {us = us} e a = subst (λ l. Sub l us) e a
-
-in_threes : (a b c : List Site) → (a ++ b) ++ c ≡ a ++ (b ++ c)
-in_threes [] b c = refl
-in_threes (x ∷ a) b c = ap (λ m. x ∷ m) (in_threes a b c)
 
 joined : (o : Operation) (p : Place) (a b : Tree) → sites (join o p a b) ≡ sites a ++ sites b
 unfolding sites
@@ -96,7 +92,7 @@ mutual
   sub_cases : {us : List Lexeme} {cs : Alternatives} {o : Optional} → DerivesCases us cs o → Sub (sites_in cs ++ sites_of o) us
   sub_cases (d_only p {xs = xs} t a) = before xs (skip _ (plus_none (plus_none (sub a))))
   sub_cases (d_others p q r s {xs = xs} t a b) = before xs (skip _ (append (plus_none (sub a)) (skip _ (skip _ (skip _ (sub b))))))
-  sub_cases (d_next p q {xs = xs} {a = x} {cs = cs} {o = o} t a c) = before xs (skip _ (moved (sym (in_threes (sites x) (sites_in cs) (sites_of o))) (append (sub a) (skip _ (sub_cases c)))))
+  sub_cases (d_next p q {xs = xs} {a = x} {cs = cs} {o = o} t a c) = before xs (skip _ (moved (sym (append_assoc (sites x) (sites_in cs) (sites_of o))) (append (sub a) (skip _ (sub_cases c)))))
 
 -- ---- places rise
 

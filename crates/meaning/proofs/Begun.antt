@@ -4,7 +4,8 @@ use Rattle.syntax.specs.Tree.{Place, Tree, numeral, name, unary, binary, connect
 use Rattle.values.specs.declared.Fault.{Fault}
 use Rattle.values.specs.Value.{Value}
 use Rattle.values.specs.Operators as op
-use Rattle.meaning.specs.Names.{In, Sight, Facts}
+use Rattle.syntax.specs.Names.{In}
+use Rattle.meaning.specs.Names.{Sight, Facts}
 use Rattle.meaning.specs.Course.{fault, Course, ended, begins, chooses}
 use Rattle.meaning.specs.Eval.{eval}
 use Rattle.meaning.specs.Play.{Picker, outcome, begun}

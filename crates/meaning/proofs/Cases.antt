@@ -1,5 +1,6 @@
 -- Patterns and `cases`.
 use Rattle.std.proofs.Common.{◌≡◌, Bool, true, false, cond, List, [], ◌∷◌, ◌++◌, pos, sym, refl, ap, ◌∙◌, subst}
+use Rattle.std.proofs.lemmas.List.{append-nil}
 use mathlib.Core.Option.{Option, none, some}
 use Rattle.std.specs.Ordering.{is_eq}
 use Rattle.syntax.specs.declared.Collection.{Collection}
@@ -17,7 +18,6 @@ use Rattle.meaning.specs.Eval.{both, match, match_all, matched, eval, eval_cases
 use Rattle.meaning.specs.Play.{Picker, outcome, begun}
 use Rattle.meaning.specs.Laws.{of_one, unless_fault, Matching, Cased, Casing}
 use Rattle.meaning.proofs.Orders.{strict_out, strict_list}
-use Rattle.meaning.proofs.Members.{no_more as nothing_more}
 
 -- ---- patterns
 
@@ -113,7 +113,7 @@ module _ (pick : Picker) (f : Facts) (s : Sight) (p : Place) (a : Tree) (v : Val
         others = λ b. case_out no_more (present b) ∙ ap (outcome pick) (other_is b);
         others_list = λ b. case_list no_more (present b) ∙ ap (λ m. p ∷ (begun pick (eval a f s) ++ begun pick m)) (other_is b);
         no_case = case_out no_more absent ∙ ap (outcome pick) none_is;
-        no_case_list = case_list no_more absent ∙ ap (λ m. p ∷ (begun pick (eval a f s) ++ begun pick m)) none_is ∙ ap (λ l. p ∷ l) (nothing_more (begun pick (eval a f s)));
+        no_case_list = case_list no_more absent ∙ ap (λ m. p ∷ (begun pick (eval a f s) ++ begun pick m)) none_is ∙ ap (λ l. p ∷ l) (append-nil (begun pick (eval a f s)));
       }
 
 pub casing : Casing

@@ -1,5 +1,6 @@
 -- Comprehensions, member by member.
-use Rattle.std.proofs.Common.{◌≡◌, Bool, true, false, cond, ◌⊎◌, List, [], ◌∷◌, ◌++◌, Ok, Err, sym, refl, ap, ◌∙◌, subst, inl, inr}
+use Rattle.std.proofs.Common.{◌≡◌, Bool, true, false, cond, ◌⊎◌, List, [], ◌∷◌, ◌++◌, Ok, Err, sym, refl, ap, ◌∙◌, subst, inl, inr, append_assoc}
+use Rattle.std.proofs.lemmas.List.{append-nil}
 use Rattle.std.proofs.lemmas.Bool.{and_parts}
 use Rattle.syntax.specs.declared.Collection.{Collection}
 use Rattle.syntax.specs.declared.Collection.TheVariants.{Set, Sequence, Tuple}
@@ -11,13 +12,14 @@ use Rattle.values.specs.Value.{Value, number, truth, many, of, list, pack}
 use Rattle.values.specs.Lawful.{fits}
 use Rattle.values.specs.Sets.{gathered}
 use Rattle.values.specs.Operators.{is, grown, grow}
-use Rattle.meaning.specs.Names.{In, bind, Facts, Sight}
+use Rattle.syntax.specs.Names.{In}
+use Rattle.meaning.specs.Names.{bind, Facts, Sight}
 use Rattle.meaning.specs.Course.{Outcome, value, fault, Course, ended}
 use Rattle.meaning.specs.Eval.{given, told, truth_of, branch, looped, all_numbers, fit, over, added, adding, filtering, eval, eval_or}
 use Rattle.meaning.specs.Play.{Picker, outcome, begun}
 use Rattle.meaning.specs.Laws.{side, if_true, those, each, Values, collected, filtered, Comprehended, Comprehending}
 use Rattle.meaning.proofs.Plays.{outcome_bind, begun_bind}
-use Rattle.meaning.proofs.Members.{unpacked, no_more}
+use Rattle.meaning.proofs.Members.{unpacked}
 
 abbrev is_value : Outcome → Type 0
 is_value (value v) = Unit {0}
@@ -86,10 +88,6 @@ module _ (pick : Picker) (p : Place) (k : Collection) (c r : Value → Course) w
       is_of : u ≡ of k (grown_all k us results)
       list_is : begun pick (c v) ++ l ≡ filtered (side o) (begun pick (c v)) (begun pick (r v)) ++ lists vs
 
-    in_threes : (a b d : List Place) → a ++ (b ++ d) ≡ (a ++ b) ++ d
-    in_threes [] b d = refl
-    in_threes (x ∷ a) b d = ap (λ m. x ∷ m) (in_threes a b d)
-
     abbrev turn : List Value → Outcome → Course
     turn us o = branch (adding p k (r v) (rest vs) (value (of k us))) (rest vs (value (of k us))) (truth_of p o)
 
@@ -106,7 +104,7 @@ module _ (pick : Picker) (p : Place) (k : Collection) (c r : Value → Course) w
           is_of = b.is_of ∙ ap (λ l. of k (grown_all k (grown k l a.what) b.results)) (unpacked us);
           list_is =
               ap (λ l. begun pick (c v) ++ l) (begun_bind pick (put us) (r v) ∙ ap (λ l. begun pick (r v) ++ l) (a.begins_as ∙ b.list_is))
-              ∙ in_threes (begun pick (c v)) (begun pick (r v)) (lists vs);
+              ∙ sym (append_assoc (begun pick (c v)) (begun pick (r v)) (lists vs));
         }
     step us (value (truth false)) h =
         let b = again us h in
@@ -142,17 +140,13 @@ as_set : (us ws : List Value) → grown_all Set us ws ≡ gathered us ws
 as_set us [] = refl
 as_set us (w ∷ ws) = as_set (grown Set us w) ws
 
-one_more : (us : List Value) (w : Value) (ws : List Value) → (us ++ w ∷ []) ++ ws ≡ us ++ w ∷ ws
-one_more [] w ws = refl
-one_more (u ∷ us) w ws = ap (λ l. u ∷ l) (one_more us w ws)
-
 as_sequence : (us ws : List Value) → grown_all Sequence us ws ≡ us ++ ws
-as_sequence us [] = sym (no_more us)
-as_sequence us (w ∷ ws) = as_sequence (us ++ w ∷ []) ws ∙ one_more us w ws
+as_sequence us [] = sym (append-nil us)
+as_sequence us (w ∷ ws) = as_sequence (us ++ w ∷ []) ws ∙ append_assoc us (w ∷ []) ws
 
 as_tuple : (us ws : List Value) → grown_all Tuple us ws ≡ us ++ ws
-as_tuple us [] = sym (no_more us)
-as_tuple us (w ∷ ws) = as_tuple (us ++ w ∷ []) ws ∙ one_more us w ws
+as_tuple us [] = sym (append-nil us)
+as_tuple us (w ∷ ws) = as_tuple (us ++ w ∷ []) ws ∙ append_assoc us (w ∷ []) ws
 
 as_collected : (k : Collection) (ws : List Value) → of k (grown_all k [] ws) ≡ collected k ws
 as_collected Set ws = ap (of Set) (as_set [] ws)

@@ -13,14 +13,15 @@ use Rattle.values.specs.Sets.{equal, member}
 use Rattle.values.specs.Operators.{is, members}
 use Rattle.sets.proofs.Order.{equal_of, itself}
 use Rattle.sets.proofs.Order as order
-use Rattle.meaning.specs.Names.{In, Binding, Sight, nothing, bind, bind_all, Facts}
+use Rattle.syntax.specs.Names.{In}
+use Rattle.meaning.specs.Names.{Binding, Sight, nothing, bind, bind_all, Facts}
 use Rattle.meaning.specs.Parts.{Site, sites, sites_all, sites_in, sites_of, Apart}
 use Rattle.meaning.specs.Course.{Outcome, value, fault, Course, ended, begins, chooses, ◌>>=◌}
 use Rattle.meaning.specs.Eval.{given, strict, Truth, holds, fails, truth_of, decides, branch, deciding, left, joined, connect, Body, looped, fit, over, decider, kept, searching, added, adding, filtering, candidate, testing, choice, match, matched, eval, eval_all, eval_cases, eval_or}
 use Rattle.meaning.specs.Play.{Picker, outcome, Assigns, Allowed}
 use Rattle.meaning.specs.Laws.{Leads, Assigning}
 use Rattle.meaning.proofs.Apart.{apart}
-use Rattle.meaning.proofs.Free.{in_left, in_right}
+use Rattle.syntax.proofs.Names.{in_left, in_right}
 
 -- each choice on a picker's way is as P says
 abbrev Way : Picker → (Place → Sight → Value → List Value → Type 0) → Course → Type 0

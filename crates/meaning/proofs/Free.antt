@@ -1,7 +1,8 @@
 -- The course depends on the facts at the free names only.
-use Rattle.std.proofs.Common.{◌≡◌, Bool, true, false, cond, not, ◌&&◌, ◌||◌, eqb, List, [], ◌∷◌, ◌++◌, pos, sym, refl, ap, ◌∙◌, subst, inl, inr}
+use Rattle.std.proofs.Common.{◌≡◌, Bool, true, false, cond, not, ◌&&◌, ◌||◌, List, [], ◌∷◌, ◌++◌, pos, sym, refl, ap, ◌∙◌, subst, inl, inr}
+use Rattle.std.proofs.Math.Option.{some-injective}
 use mathlib.Core.Option.{Option, none, some}
-use Rattle.std.proofs.lemmas.Bool.{and_parts, eqb-true, eq-eqb, true≢false}
+use Rattle.std.proofs.lemmas.Bool.{and_parts, true≢false}
 use Rattle.syntax.specs.declared.Collection.{Collection}
 use Rattle.syntax.specs.declared.Collection.TheVariants.{Set}
 use Rattle.syntax.specs.Tree.{Place, Name, Pattern, any, binds, number, parts, Patterns, Tree, numeral, name, unary, binary, connective, if_else, let_in, let_be, cases, quantifier, collection, range, comprehension, selection, Trees, Alternatives, no_more, alternative, Optional, absent, present}
@@ -11,30 +12,12 @@ use Rattle.values.specs.Value.{Value}
 use Rattle.values.specs.Value as val
 use Rattle.values.specs.Operators as op
 use Rattle.values.specs.Sets.{equal}
-use Rattle.meaning.specs.Names.{In, same, Binding, Sight, nothing, bind, bind_all, Facts, known, Occurrence, among, names, all_names, free, free_all, free_in, free_of, Map, lookup}
+use Rattle.syntax.proofs.Names.{in_left, in_right}
+use Rattle.syntax.specs.Names.{In, same, Occurrence, among, names, all_names, free, free_all, free_in, free_of}
+use Rattle.meaning.specs.Names.{Binding, Sight, nothing, bind, bind_all, Facts, known, Map, lookup}
 use Rattle.meaning.specs.Course.{Outcome, value, fault, Course, ended, begins, ◌>>=◌}
 use Rattle.meaning.specs.Eval.{strict, told, truth_of, branch, deciding, left, connect, over, decider, searching, adding, filtering, testing, choice, both, match, match_all, matched, eval, eval_all, eval_cases, eval_or}
 use Rattle.meaning.specs.Laws.{Naming}
-
-pub in_left : {A : Type 0} (x : A) (xs ys : List A) → In x xs → In x (xs ++ ys)
-in_left x [] ys i = absurd i
-in_left x (y ∷ xs) ys (inl e) = inl e
-in_left x (y ∷ xs) ys (inr i) = inr (in_left x xs ys i)
-
-pub in_right : {A : Type 0} (x : A) (xs ys : List A) → In x ys → In x (xs ++ ys)
-in_right x [] ys i = i
-in_right x (y ∷ xs) ys i = inr (in_right x xs ys i)
-
--- equal bytes
-pub same_itself : (n : Name) → same n n ≡ true
-same_itself [] = refl
-same_itself (b ∷ n) = ap (λ c. c && same n n) (eq-eqb b b refl) ∙ same_itself n
-
-pub same_is : (n m : Name) → same n m ≡ true → n ≡ m
-same_is [] [] e = refl
-same_is [] (c ∷ m) e = absurd (true≢false (sym e))
-same_is (b ∷ n) [] e = absurd (true≢false (sym e))
-same_is (b ∷ n) (c ∷ m) e = let h = and_parts (eqb b c) (same n m) e in λ i. eqb-true b c h.0 i ∷ same_is n m h.1 i
 
 -- ---- what is bound
 
@@ -210,9 +193,6 @@ module _ (f g : Facts) where
     same_or absent bs s w h c = refl
     same_or (present t) bs s w h c = same_eval t bs s w h
 
-some_inj : {A : Type 0} (a b : A) → some a ≡ some b → a ≡ b
-some_inj a b e = cc
-
 abbrev there : Option Value → Bool
 there none = false
 there (some v) = true
@@ -243,5 +223,5 @@ naming =
     record {
       depends = λ t f g h. same_eval f g t [] nothing (scope_none nothing) h;
       covered = λ m t h. (facts_of m, λ o i. facts_agree m o.name (h o i).0 (h o i).1);
-      settled = λ m t f g a b. same_eval f g t [] nothing (scope_none nothing) (λ o i. some_inj (f o.name) (g o.name) (sym (a o i) ∙ b o i));
+      settled = λ m t f g a b. same_eval f g t [] nothing (scope_none nothing) (λ o i. some-injective (f o.name) (g o.name) (sym (a o i) ∙ b o i));
     }

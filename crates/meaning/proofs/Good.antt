@@ -1,5 +1,5 @@
 -- What holds of values all along a course, and where its faults are: one induction over the tree.
-use Rattle.std.proofs.Common.{◌≡◌, ℕ, Bool, true, false, cond, not, ◌&&◌, List, [], ◌∷◌, ◌++◌, pos, Ok, Err, Result, sym, refl, ap, subst, inl, inr}
+use Rattle.std.proofs.Common.{◌≡◌, ℕ, Bool, true, false, cond, not, ◌&&◌, List, [], ◌∷◌, ◌++◌, pos, Ok, Err, Result, sym, refl, subst, inl, inr}
 use mathlib.Core.Option.{Option, none, some}
 use Rattle.syntax.specs.declared.Unary.{Unary}
 use Rattle.syntax.specs.declared.Binary.{Binary}
@@ -11,15 +11,17 @@ use Rattle.syntax.specs.Tree.{Place, Name, Pattern, any, binds, parts, Patterns,
 use Rattle.values.specs.declared.Fault.{Fault}
 use Rattle.values.specs.declared.Fault.TheVariants.{WrongKind, TooLarge, NoCase}
 use Rattle.values.specs.declared.Operand.TheVariants.{Many}
-use Rattle.values.specs.Value.{Value, number, truth, many, of, list, pack}
+use Rattle.values.specs.Value.{Value, number, truth, many, of}
 use Rattle.values.specs.Lawful.{fits}
 use Rattle.values.specs.Sets.{equal}
 use Rattle.values.specs.Operators.{is, members, unary, binary, select, range, grown, grow}
-use Rattle.meaning.specs.Names.{In, same, Binding, Sight, bind, bind_all, Facts, known}
+use Rattle.syntax.specs.Names.{In, same}
+use Rattle.meaning.specs.Names.{Binding, Sight, bind, bind_all, Facts, known}
 use Rattle.meaning.specs.Parts.{numerals, numerals_all, numerals_in, numerals_of}
 use Rattle.meaning.specs.Course.{Outcome, value, fault, Course, ended, begins, chooses, ◌>>=◌}
 use Rattle.meaning.specs.Eval.{given, strict, told, Truth, holds, fails, truth_of, decides, branch, deciding, left, joined, connect, Body, looped, fit, over, decider, kept, searching, added, adding, filtering, candidate, testing, choice, both, match, match_all, matched, eval, eval_all, eval_cases, eval_or}
-use Rattle.meaning.proofs.Free.{in_left, in_right}
+use Rattle.syntax.proofs.Names.{in_left, in_right}
+use Rattle.meaning.proofs.Members.{unpacked}
 
 abbrev pub Sub : List Place → List Place → Type 0
 Sub ps qs = (q : Place) → In q ps → In q qs
@@ -231,10 +233,6 @@ module _ (V : Value → Type 0) (K : Closed V) where
   -- candidates
   abbrev Candidates : Value → Type 0
   Candidates c = All V (members c)
-
-  unpacked : (vs : List Value) → list (pack vs) ≡ vs
-  unpacked [] = refl
-  unpacked (v ∷ vs) = ap (λ l. v ∷ l) (unpacked vs)
 
   candidates : (v : Value) (ps : List Place) (a : Outcome) → V v → End Candidates ps a → End Candidates ps (candidate v a)
   candidates v ps (value c) h e = subst (All V) (sym (unpacked (members c ++ v ∷ []))) (all_append V (members c) v e h)

@@ -13,14 +13,16 @@ use Rattle.values.specs.Lawful.{Lawful, ranged, rangeds, ordered, ordereds}
 use Rattle.values.specs.Operators.{is, members}
 use Rattle.values.proofs.Laws.{onto_is}
 use Rattle.operations.proofs.Lawfuls.{lawfuls}
-use Rattle.meaning.specs.Names.{In, same, nothing, Facts, Occurrence, among, free}
+use Rattle.syntax.specs.Names.{In, same, Occurrence, among, free}
+use Rattle.meaning.specs.Names.{nothing, Facts}
 use Rattle.meaning.specs.Course.{Outcome, value, fault, Course, ended, begins, chooses}
 use Rattle.meaning.specs.Eval.{eval}
 use Rattle.meaning.specs.Play.{Chooser, by, outcome}
 use Rattle.meaning.specs.Laws.{Ranged, ToldLawful, Lawfully, Lawfulness}
 use Rattle.meaning.proofs.Good.{All, Closed, Good, good}
 use Rattle.meaning.proofs.Plays.{by_assigns}
-use Rattle.meaning.proofs.Free.{naming, same_itself, same_is}
+use Rattle.syntax.proofs.Names.{same_itself, same_is}
+use Rattle.meaning.proofs.Free.{naming}
 
 -- ---- the operators keep it
 

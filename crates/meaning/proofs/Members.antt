@@ -1,5 +1,6 @@
 -- Quantifiers and `let be`, member by member.
-use Rattle.std.proofs.Common.{◌≡◌, Bool, true, false, cond, not, List, [], ◌∷◌, ◌++◌, sym, refl, ap, ◌∙◌, inl, inr}
+use Rattle.std.proofs.Common.{◌≡◌, Bool, true, false, cond, not, List, [], ◌∷◌, ◌++◌, sym, refl, ap, ◌∙◌, inl, inr, append_assoc}
+use Rattle.std.proofs.lemmas.List.{append-nil}
 use mathlib.Core.Bool.{beq}
 use Rattle.syntax.specs.declared.Connective.TheVariants.{Or, And}
 use Rattle.syntax.specs.declared.Quantifier.{Quantifier}
@@ -10,7 +11,8 @@ use Rattle.values.specs.declared.Fault.{Fault}
 use Rattle.values.specs.declared.Fault.TheVariants.{WrongKind}
 use Rattle.values.specs.Value.{Value, number, truth, many, of, list, pack}
 use Rattle.values.specs.Operators.{members}
-use Rattle.meaning.specs.Names.{In, bind, Facts, Sight}
+use Rattle.syntax.specs.Names.{In}
+use Rattle.meaning.specs.Names.{bind, Facts, Sight}
 use Rattle.meaning.specs.Course.{Outcome, value, fault, Course, ended}
 use Rattle.meaning.specs.Eval.{given, strict, Truth, holds, fails, truth_of, decides, looped, over, kept, searching, decider, candidate, testing, choice, eval}
 use Rattle.meaning.specs.Play.{Picker, outcome, begun}
@@ -161,17 +163,13 @@ module _ (pick : Picker) (q : Quantifier) (p : Place) (x : Name) (a b : Tree) (f
       ∙ ap (λ l. begun pick (looped (searching p (decider q) B) l (value (truth (not (decider q)))))) (unpacked vs)
       ∙ ap (λ d. begun pick (looped (searching p d B) vs (value (truth (not d))))) (decisive_is q)))
 
-  end_of : (us : List Value) → us ++ [] ≡ us
-  end_of [] = refl
-  end_of (u ∷ us) = ap (λ l. u ∷ l) (end_of us)
-
   quantified : Quantified pick q p x a b f s vs
   quantified =
       record {
         decided = λ v i h. to_loop ∙ decided pick p (decisive q) B v vs (value (truth (not (decisive q)))) i h;
         undecided = λ h.
             to_loop
-            ∙ ap (λ l. outcome pick (looped (searching p (decisive q) B) l (value (truth (not (decisive q)))))) (sym (end_of vs))
+            ∙ ap (λ l. outcome pick (looped (searching p (decisive q) B) l (value (truth (not (decisive q)))))) (sym (append-nil vs))
             ∙ passed pick p (decisive q) B vs [] (value (truth (not (decisive q)))) h;
         first_failed = λ us ws v o j h k n.
             let w = fails_as p (outcome pick (B v)) o k in
@@ -188,21 +186,12 @@ quantifying pick q p x a b f s vs e = quantified pick q p x a b f s vs e
 
 -- ---- `let be`
 
-pub no_more : {A : Type 0} (l : List A) → l ++ [] ≡ l
-no_more [] = refl
-no_more (x ∷ l) = ap (λ m. x ∷ m) (no_more l)
-
-in_threes : {A : Type 0} (a b c : List A) → (a ++ b) ++ c ≡ a ++ (b ++ c)
-in_threes [] b c = refl
-in_threes (x ∷ a) b c = ap (λ m. x ∷ m) (in_threes a b c)
-
--- the candidates so far, after one more member
 with_one : (p : Place) (v : Value) (us : List Value) (o : Outcome) → cond (decides true (truth_of p o)) (candidate v (value (of Set us))) (value (of Set us)) ≡ value (of Set (us ++ if_true (side o) v))
-with_one p v us (value (number z)) = ap (λ l. value (of Set l)) (sym (no_more us))
+with_one p v us (value (number z)) = ap (λ l. value (of Set l)) (sym (append-nil us))
 with_one p v us (value (truth true)) = ap (λ l. value (of Set (l ++ v ∷ []))) (unpacked us)
-with_one p v us (value (truth false)) = ap (λ l. value (of Set l)) (sym (no_more us))
-with_one p v us (value (many k vs)) = ap (λ l. value (of Set l)) (sym (no_more us))
-with_one p v us (fault k q) = ap (λ l. value (of Set l)) (sym (no_more us))
+with_one p v us (value (truth false)) = ap (λ l. value (of Set l)) (sym (append-nil us))
+with_one p v us (value (many k vs)) = ap (λ l. value (of Set l)) (sym (append-nil us))
+with_one p v us (fault k q) = ap (λ l. value (of Set l)) (sym (append-nil us))
 
 module _ (pick : Picker) (p : Place) (c : Value → Course) where
   abbrev next : Value → (Outcome → Course) → Outcome → Outcome → Course
@@ -212,13 +201,13 @@ module _ (pick : Picker) (p : Place) (c : Value → Course) where
   all vs = looped (testing p c) vs
 
   gathers : (vs us : List Value) → outcome pick (all vs (value (of Set us))) ≡ value (of Set (us ++ those (λ v. outcome pick (c v)) vs))
-  gathers [] us = ap (λ l. value (of Set l)) (sym (no_more us))
+  gathers [] us = ap (λ l. value (of Set l)) (sym (append-nil us))
   gathers (v ∷ vs) us =
       let o = outcome pick (c v) in
       outcome_bind pick (next v (all vs) (value (of Set us))) (c v)
       ∙ ap (λ a. outcome pick (all vs a)) (with_one p v us o)
       ∙ gathers vs (us ++ if_true (side o) v)
-      ∙ ap (λ l. value (of Set l)) (in_threes us (if_true (side o) v) (those (λ w. outcome pick (c w)) vs))
+      ∙ ap (λ l. value (of Set l)) (append_assoc us (if_true (side o) v) (those (λ w. outcome pick (c w)) vs))
 
   begins_each : (vs : List Value) (a : Outcome) → begun pick (all vs a) ≡ each (λ v. begun pick (c v)) vs
   begins_each [] a = refl
@@ -271,7 +260,7 @@ module _ (pick : Picker) (p : Place) (x : Name) (a c b : Tree) (f : Facts) (s : 
   chosen_is =
       record {
         without = λ j. chosen_outcome [] j;
-        without_list = λ j. chosen_begun [] j ∙ ap (λ l. p ∷ l) (no_more (begun pick (eval a f s) ++ each (λ v. begun pick (C v)) vs));
+        without_list = λ j. chosen_begun [] j ∙ ap (λ l. p ∷ l) (append-nil (begun pick (eval a f s) ++ each (λ v. begun pick (C v)) vs));
         taken = λ d ds j. chosen_outcome (d ∷ ds) j;
         taken_list = λ d ds j. chosen_begun (d ∷ ds) j;
       }

@@ -1,5 +1,6 @@
 -- Operators, `let` and `if`: the order of their parts.
 use Rattle.std.proofs.Common.{◌≡◌, [], ◌∷◌, ◌++◌, sym, refl, ap, ◌∙◌}
+use Rattle.std.proofs.lemmas.List.{append-nil}
 use Rattle.syntax.specs.Tree.{Place, Tree}
 use Rattle.values.specs.Value.{Value}
 use Rattle.values.specs.Operators as op
@@ -9,7 +10,7 @@ use Rattle.meaning.specs.Eval.{given, strict, told, truth_of, branch, eval}
 use Rattle.meaning.specs.Play.{Picker, outcome, begun}
 use Rattle.meaning.specs.Laws.{of_both, of_one, unless_fault, side, failing, Ordering}
 use Rattle.meaning.proofs.Plays.{outcome_bind, begun_bind}
-use Rattle.meaning.proofs.Members.{no_more, fails_as}
+use Rattle.meaning.proofs.Members.{fails_as}
 
 module _ (pick : Picker) where
   given_out : (g : Value → Course) (o : Outcome) → outcome pick (given g o) ≡ of_one (λ v. outcome pick (g v)) o
@@ -41,7 +42,7 @@ module _ (pick : Picker) where
 
   twice_list : (n : Course) (g : Value → Value → Outcome) (o : Outcome) → unless_fault (λ v. begun pick (strict n (λ w. ended (g v w)))) o ≡ unless_fault (λ v. begun pick n) o
   twice_list n g (fault k q) = refl
-  twice_list n g (value v) = strict_list n (λ w. ended (g v w)) ∙ ap (λ l. begun pick n ++ l) (quiet (λ w. ended (g v w)) (λ w. refl) (outcome pick n)) ∙ no_more (begun pick n)
+  twice_list n g (value v) = strict_list n (λ w. ended (g v w)) ∙ ap (λ l. begun pick n ++ l) (quiet (λ w. ended (g v w)) (λ w. refl) (outcome pick n)) ∙ append-nil (begun pick n)
 
   module _ (f : Facts) (s : Sight) (p : Place) (a b c : Tree) where
     abbrev B : Outcome → Course
@@ -65,7 +66,7 @@ unfolding eval
 ordering pick f s =
     record {
       unary_out = λ p o a. strict_out pick (eval a f s) (λ v. ended (told p (op.unary o v)));
-      unary_list = λ p o a. ap (λ l. p ∷ l) (strict_list pick (eval a f s) (λ v. ended (told p (op.unary o v))) ∙ ap (λ l. begun pick (eval a f s) ++ l) (quiet pick (λ v. ended (told p (op.unary o v))) (λ v. refl) (outcome pick (eval a f s))) ∙ no_more (begun pick (eval a f s)));
+      unary_list = λ p o a. ap (λ l. p ∷ l) (strict_list pick (eval a f s) (λ v. ended (told p (op.unary o v))) ∙ ap (λ l. begun pick (eval a f s) ++ l) (quiet pick (λ v. ended (told p (op.unary o v))) (λ v. refl) (outcome pick (eval a f s))) ∙ append-nil (begun pick (eval a f s)));
       binary_out = λ p o a b.
           strict_out pick (eval a f s) (λ v. strict (eval b f s) λ w. ended (told p (op.binary o v w)))
           ∙ twice pick (eval b f s) (λ v w. told p (op.binary o v w)) (outcome pick (eval a f s));
@@ -80,5 +81,5 @@ ordering pick f s =
       if_false_out = λ p a b c e. if_out pick f s p a b c ∙ ap (λ o. outcome pick (B pick f s p a b c o)) e;
       if_false_list = λ p a b c e. if_list pick f s p a b c ∙ ap (λ o. p ∷ (begun pick (eval a f s) ++ begun pick (B pick f s p a b c o))) e;
       if_none_out = λ p a b c o h. if_out pick f s p a b c ∙ ap (outcome pick) (if_none pick f s p a b c o h);
-      if_none_list = λ p a b c o h. if_list pick f s p a b c ∙ ap (λ m. p ∷ (begun pick (eval a f s) ++ begun pick m)) (if_none pick f s p a b c o h) ∙ ap (λ l. p ∷ l) (no_more (begun pick (eval a f s)));
+      if_none_list = λ p a b c o h. if_list pick f s p a b c ∙ ap (λ m. p ∷ (begun pick (eval a f s) ++ begun pick m)) (if_none pick f s p a b c o h) ∙ ap (λ l. p ∷ l) (append-nil (begun pick (eval a f s)));
     }

@@ -2,7 +2,8 @@
 use Rattle.std.proofs.Common.{◌≡◌, ℕ, zero, suc, ◌<◌, List, [], ◌∷◌, ◌++◌, length, get_or, sym, refl, ap, ◌∙◌, inl, inr, le_of_suc-le-suc, not-suc-le-zero}
 use Rattle.syntax.specs.Tree.{Place}
 use Rattle.values.specs.Value.{Value}
-use Rattle.meaning.specs.Names.{In, Sight, nothing}
+use Rattle.syntax.specs.Names.{In}
+use Rattle.meaning.specs.Names.{Sight, nothing}
 use Rattle.meaning.specs.Course.{Outcome, Course, ended, begins, chooses, ◌>>=◌}
 use Rattle.meaning.specs.Eval.{eval}
 use Rattle.meaning.specs.Play.{Picker, outcome, begun, Chooser, nth, by, Assigns}

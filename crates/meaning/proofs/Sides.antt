@@ -1,5 +1,6 @@
 -- Connectives and quantifiers: the tables, duality, and sets without members.
 use Rattle.std.proofs.Common.{◌≡◌, Bool, true, false, cond, not, ◌&&◌, List, [], ◌∷◌, ◌++◌, sym, refl, ap, ◌∙◌}
+use Rattle.std.proofs.lemmas.List.{append-nil}
 use Rattle.syntax.specs.declared.Binary.TheVariants.{Equal, NotEqual, InSet, NotInSet}
 use Rattle.syntax.specs.declared.Connective.{Connective}
 use Rattle.syntax.specs.declared.Connective.TheVariants.{Implies, Or, And}
@@ -112,13 +113,9 @@ module _ (pick : Picker) (p : Place) (d : Bool) (b : Course) (a : Truth) where
   connect_begun : begun pick (connect p d b a) ≡ cond (decides d a) [] (begun pick b)
   connect_begun = go (decides d a)
     where
-      none_more : (l : List Place) → l ++ [] ≡ l
-      none_more [] = refl
-      none_more (x ∷ l) = ap (λ m. x ∷ m) (none_more l)
-
       go : (c : Bool) → begun pick (cond c (ended (value (truth d))) (b >>= λ o. ended (joined d a (truth_of p o)))) ≡ cond c [] (begun pick b)
       go true = refl
-      go false = begun_bind pick (λ o. ended (joined d a (truth_of p o))) b ∙ none_more (begun pick b)
+      go false = begun_bind pick (λ o. ended (joined d a (truth_of p o))) b ∙ append-nil (begun pick b)
 
 pub connecting : Connecting
 unfolding eval

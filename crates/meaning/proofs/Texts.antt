@@ -18,7 +18,8 @@ use Rattle.values.specs.Value as v
 use Rattle.values.specs.Value.{Value}
 use Rattle.values.specs.Sets.{equal}
 use Rattle.values.specs.Operators as op
-use Rattle.meaning.specs.Names.{In, same, Sight, nothing, bind, Facts, free}
+use Rattle.syntax.specs.Names.{In, same, free}
+use Rattle.meaning.specs.Names.{Sight, nothing, bind, Facts}
 use Rattle.meaning.specs.Course.{Outcome, value, fault, Course, ended, begins, chooses}
 use Rattle.meaning.specs.Eval.{eval}
 use Rattle.meaning.specs.Play.{Picker, outcome, Chooser, nth, by, Assigns}

@@ -22,7 +22,8 @@ use Rattle.values.specs.declared.Operand.TheVariants.{Number, Many}
 use Rattle.values.specs.Lawful.{Lawful}
 use Rattle.values.specs.Sets.{gathered}
 use Rattle.values.specs.Operators.{is, unary as op_unary, binary as op_binary}
-use Rattle.meaning.specs.Names.{In, Binding, ◌≔◌, Sight, nothing, bind, bind_all, Facts, Occurrence, free, Map, lookup, Agrees}
+use Rattle.syntax.specs.Names.{In, Occurrence, free}
+use Rattle.meaning.specs.Names.{Binding, ◌≔◌, Sight, nothing, bind, bind_all, Facts, Map, lookup, Agrees}
 use Rattle.meaning.specs.Parts.{numerals, sites, Apart}
 use Rattle.meaning.specs.Course.{Outcome, value, fault, Course, ended, begins, chooses}
 use Rattle.meaning.specs.Eval.{told, both, match, eval, eval_or}

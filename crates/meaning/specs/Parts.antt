@@ -1,7 +1,7 @@
 -- What stands in a tree: its numerals, and its `let be`.
 use Rattle.std.specs.Prelude.{ℕ, List, [], ◌∷◌, ◌++◌, ◌≢◌}
 use Rattle.syntax.specs.Tree.{Place, Name, Tree, numeral, name, unary, binary, connective, if_else, let_in, let_be, cases, quantifier, collection, range, comprehension, selection, Trees, Alternatives, no_more, alternative, Optional, absent, present}
-use Rattle.meaning.specs.Names.{In}
+use Rattle.syntax.specs.Names.{In}
 
 -- ---- numerals
 

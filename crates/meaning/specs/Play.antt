@@ -2,7 +2,8 @@
 use Rattle.std.specs.Prelude.{◌≡◌, ℕ, zero, suc, ◌<◌, List, [], ◌∷◌, length}
 use Rattle.syntax.specs.Tree.{Place, Tree}
 use Rattle.values.specs.Value.{Value}
-use Rattle.meaning.specs.Names.{In, Sight, nothing, Facts}
+use Rattle.syntax.specs.Names.{In}
+use Rattle.meaning.specs.Names.{Sight, nothing, Facts}
 use Rattle.meaning.specs.Course.{Outcome, Course, ended, begins, chooses}
 use Rattle.meaning.specs.Eval.{eval}
 

@@ -4,7 +4,7 @@
 
 ghost use Rattle.std.specs.Prelude.{◌≡◌, true, ℤ, pos, ◌+ℤ◌, ◌-ℤ◌, ◌*ℤ◌, neg_ℤ, ◌≢◌, unsigned_abs};
 ghost use Rattle.values.specs.Lawful.{in_range};
-ghost use Rattle.values.specs.Numbers.{quotient as quotient_of, remainder as remainder_of, modulus as modulus_of};
+ghost use Rattle.values.specs.Numbers.{modulus as modulus_of};
 ghost use Rattle.numbers.specs.Number.{ranged as ranged_of, divided, unless_zero};
 
 use values::Fault;
@@ -60,23 +60,6 @@ pub enum Division {
     Mod,
 }
 
-/// `a` divided by `b`, cut toward zero.
-fn quotient(a: i32, b: i32) -> i32
-    requires number { in_range a ≡ true }
-    requires divisor { b ≢ pos 0 }
-    ensures { result ≡ quotient_of a b }
-{
-    a / b
-}
-
-fn remainder(a: i32, b: i32) -> i32
-    requires number { in_range a ≡ true }
-    requires divisor { b ≢ pos 0 }
-    ensures { result ≡ remainder_of a b }
-{
-    a % b
-}
-
 /// The remainder with the sign of `b`.
 fn modulus(a: i32, b: i32) -> i32
     requires number { in_range a ≡ true }
@@ -102,8 +85,8 @@ pub fn divide(how: Division, a: i32, b: i32) -> Result<i32, Fault>
         return Err(Fault::OutOfRange);
     }
     match how {
-        Division::Div => Ok(quotient(a, b)),
-        Division::Rem => Ok(remainder(a, b)),
+        Division::Div => Ok(a / b),
+        Division::Rem => Ok(a % b),
         Division::Mod => Ok(modulus(a, b)),
     }
 }

@@ -1,20 +1,29 @@
 -- What is told of a value that is made or picked.
-use Rattle.std.proofs.Common.{◌≡◌, ℕ, zero, suc, ◌+◌, ◌<◌, ◌≤◌, Bool, true, false, cond, eqb, List, [], ◌∷◌, ◌++◌, length, get_or, take, ℤ, pos, nat_abs, IfOk, Ok, Err, Result, sym, refl, ap, ◌∙◌, subst, arith, MatchResult}
+use Rattle.std.proofs.Common.{◌≡◌, ℕ, zero, suc, ◌+◌, ◌<◌, ◌≤◌, Bool, true, false, cond, eqb, List, [], ◌∷◌, ◌++◌, length, get_or, take, ℤ, pos, nat_abs, Ok, Err, Result, sym, refl, ap, ◌∙◌, arith, MatchResult}
 use Rattle.std.proofs.lemmas.List.{length-take, length-append}
+use Rattle.std.specs.Result.{IsErrAnd}
+use Rattle.std.proofs.lemmas.Result.{err_from_is_err_and}
 use Rattle.std.proofs.lemmas.Bool.{le-leb, lt-leb, and_parts}
 use Rattle.syntax.specs.declared.Collection.{Collection}
 use Rattle.values.specs.declared.Fault.{Fault}
 use Rattle.syntax.specs.declared.Unary.{Unary}
 use Rattle.syntax.specs.declared.Binary.{Binary}
 use Rattle.values.specs.declared.Fault.TheVariants.{WrongKind, OutOfRange, DivisionByZero, TooLarge}
-use Rattle.values.specs.declared.Full.{Full}
+use Rattle.tables.specs.declared.ops.Full.{Full}
 use Rattle.values.specs.Value.{Value, number, cells, row, of}
 use Rattle.values.specs.Lawful.{in_range}
-use Rattle.values.specs.Cells.{told, in_cells, Spared}
+use Rattle.values.specs.Cells.{told, in_cells}
 use Rattle.values.specs.Operators.{made, nth, is, operand, taking, takes, left, right, gives, results, unary, binary, calculated, divided}
 use Rattle.numbers.specs.Number.{ranged, unless_zero}
 use Rattle.values.proofs.Laws.{onto_is, cells_of}
-use Rattle.operations.specs.Fit.{fitted, numbered}
+use Rattle.operations.specs.Fit.{numbered}
+
+-- an answer in which no room is the fault of a value that is too large
+abbrev pub Mapped : Result ℕ Full → Result ℕ Fault → Type 0
+Mapped r f = MatchResult r (λ n. f ≡ Ok n) (λ e. IsErrAnd f (λ d. d ≡ TooLarge))
+
+too_large : (f : Result ℕ Fault) → IsErrAnd f (λ d. d ≡ TooLarge) → f ≡ Err TooLarge
+too_large f h = let p = err_from_is_err_and f h in p.1 ∙ ap Err p.2
 
 pub made_ok : (v : Value) → length (cells v) ≤ 200 → made v ≡ Ok v
 made_ok v h = ap (λ b. cond {A = Result Value Fault} b (Ok v) (Err TooLarge)) (le-leb (length (cells v)) 200 h)
@@ -23,9 +32,9 @@ pub made_not : (v : Value) → 200 < length (cells v) → made v ≡ Err TooLarg
 made_not v h = ap (λ b. cond {A = Result Value Fault} b (Ok v) (Err TooLarge)) (lt-leb (length (cells v)) 200 h)
 
 -- a value that is written where there is room for 200 cells
-pub made_told : (r : Result ℕ Full) (out : List ℤ) (v : Value) → length out ≡ 200 → MatchResult r (λ n. take n out ≡ cells v) (λ _. 200 < length (cells v)) → told (fitted r) out ≡ in_cells (made v)
-made_told (Ok n) out v l h = ap Ok h ∙ sym (ap in_cells (made_ok v (omega (arith, l, ap length h, length-take n out))))
-made_told (Err e) out v l h = sym (ap in_cells (made_not v h))
+pub made_told : (r : Result ℕ Full) (f : Result ℕ Fault) → Mapped r f → (out : List ℤ) (v : Value) → length out ≡ 200 → MatchResult r (λ n. take n out ≡ cells v) (λ _. 200 < length (cells v)) → told f out ≡ in_cells (made v)
+made_told (Ok n) f m out v l h = ap (λ o. told o out) m ∙ ap Ok h ∙ sym (ap in_cells (made_ok v (omega (arith, l, ap length h, length-take n out))))
+made_told (Err e) f m out v l h = ap (λ o. told o out) (too_large f m) ∙ sym (ap in_cells (made_not v h))
 
 -- a member takes no more cells than all of them
 pub nth_short : (n : ℕ) (vs : List Value) (v : Value) → nth n vs ≡ Ok v → length (cells v) ≤ length (row vs)
@@ -42,18 +51,11 @@ of_cells (Ok v) x e = (v, refl, cc)
 of_cells (Err f) x e = absurd (let z : ◌≡◌ {A = ℕ} 0 1 = cc in omega arith)
 
 -- a member that is copied
-pub picked : (r : Result ℕ Full) (out old x : List ℤ) (n : ℕ) (vs : List Value) → length old ≡ 200 → MatchResult r (λ m. (take m out ≡ take 0 old ++ x) × (m ≡ 0 + length x) × (m ≤ length old)) (λ _. length old < 0 + length x) → Ok x ≡ in_cells (nth n vs) → length (row vs) ≤ 200 → told (fitted r) out ≡ in_cells (nth n vs)
-picked (Ok m) out old x n vs l h e s = ap Ok h.0 ∙ e
-picked (Err f) out old x n vs l h e s =
+pub picked : (r : Result ℕ Full) (f : Result ℕ Fault) → Mapped r f → (out old x : List ℤ) (n : ℕ) (vs : List Value) → length old ≡ 200 → MatchResult r (λ m. (take m out ≡ take 0 old ++ x) × (m ≡ 0 + length x) × (m ≤ length old)) (λ _. length old < 0 + length x) → Ok x ≡ in_cells (nth n vs) → length (row vs) ≤ 200 → told f out ≡ in_cells (nth n vs)
+picked (Ok k) f m out old x n vs l h e s = ap (λ o. told o out) m ∙ ap Ok h.0 ∙ e
+picked (Err d) f m out old x n vs l h e s =
     let v = of_cells (nth n vs) x e in
     absurd (omega (arith, h, l, s, ap length v.2, nth_short n vs v.0 v.1))
-
-pub inside_fit : (r : Result ℕ Full) (f : Result ℕ Fault) (l : ℕ) → f ≡ fitted r → l ≡ 200 → IfOk r (λ n. n ≤ l) → IfOk f (λ n. n ≤ 200)
-inside_fit r f l e k h = subst (λ o. IfOk o (λ n. n ≤ 200)) (sym e) (go r h)
-  where
-    go : (r : Result ℕ Full) → IfOk r (λ n. n ≤ l) → IfOk (fitted r) (λ n. n ≤ 200)
-    go (Ok n) h = omega (arith, h, k)
-    go (Err e) h = tt
 
 -- the row of a collection is shorter than it
 pub row_short : (k : Collection) (vs : List Value) (s : List ℤ) → s ≡ cells (of k vs) → length s ≤ 200 → length (row vs) ≤ 200
@@ -83,9 +85,6 @@ both_refused op v w h = ap (λ b. in_cells (taking b (results op v w))) (sym h)
 pub pair_told : (r : Result ℕ Fault) (out x : List ℤ) → r ≡ Ok 2 → take 2 out ≡ x → told r out ≡ Ok x
 pair_told r out x e h = ap (λ o. told o out) e ∙ ap Ok h
 
-pub pair_inside : (r : Result ℕ Fault) → r ≡ Ok 2 → IfOk r (λ n. n ≤ 200)
-pair_inside r e = subst (λ o. IfOk o (λ n. n ≤ 200)) (sym e) (let l : 2 ≤ 200 = omega arith in l)
-
 -- what leaf functions tell of numbers is what the operators give
 pub calculates : (z : ℤ) → numbered (ranged z) ≡ calculated z
 calculates z = go (in_range z)
@@ -106,24 +105,6 @@ pub both_kinds : (op which : Binary) (v w : Value) → op ≡ which → takes op
 both_kinds op which v w e h = and_parts (is (left which) v) (is (right which) w) (ap (λ o. takes o v w) (sym e) ∙ h)
 
 -- a collection that has grown
-pub grown_told : (r : Result ℕ Full) (out : List ℤ) (v : Value) → MatchResult r (λ m. (take m out ≡ cells v) × (m ≤ 200)) (λ _. 200 < length (cells v)) → told (fitted r) out ≡ in_cells (made v)
-grown_told (Ok n) out v h = ap Ok h.0 ∙ sym (ap in_cells (made_ok v (omega (arith, h.1, ap length h.0, length-take n out))))
-grown_told (Err e) out v h = sym (ap in_cells (made_not v h))
-
-pub fit_both : (r : Result ℕ Full) (f : Result ℕ Fault) (P : ℕ → Type 0) (Q : Type 0) → f ≡ fitted r → MatchResult r P (λ _. Q) → MatchResult f P (λ _. Q)
-fit_both r f P Q e h = subst (λ o. MatchResult o P (λ _. Q)) (sym e) (go r h)
-  where
-    go : (r : Result ℕ Full) → MatchResult r P (λ _. Q) → MatchResult (fitted r) P (λ _. Q)
-    go (Ok n) h = h
-    go (Err e) h = h
-
--- what is left of the buffer beside a fault
-pub spared_fit : (r : Result ℕ Full) (f : Result ℕ Fault) (old new : List ℤ) → f ≡ fitted r → Spared f old new
-spared_fit r f old new e = subst (λ o. Spared o old new) (sym e) (go r)
-  where
-    go : (r : Result ℕ Full) → Spared (fitted r) old new
-    go (Ok n) = tt
-    go (Err e) = λ h. absurd (h refl)
-
-pub spared_pair : (r : Result ℕ Fault) (old new : List ℤ) → r ≡ Ok 2 → Spared r old new
-spared_pair r old new e = subst (λ o. Spared o old new) (sym e) tt
+pub grown_told : (r : Result ℕ Full) (f : Result ℕ Fault) → Mapped r f → (out : List ℤ) (v : Value) → MatchResult r (λ m. (take m out ≡ cells v) × (m ≤ 200)) (λ _. 200 < length (cells v)) → told f out ≡ in_cells (made v)
+grown_told (Ok n) f m out v h = ap (λ o. told o out) m ∙ ap Ok h.0 ∙ sym (ap in_cells (made_ok v (omega (arith, h.1, ap length h.0, length-take n out))))
+grown_told (Err e) f m out v h = ap (λ o. told o out) (too_large f m) ∙ sym (ap in_cells (made_not v h))

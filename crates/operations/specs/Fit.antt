@@ -1,13 +1,7 @@
 -- How answers of leaf functions become a value or a fault.
-use Rattle.std.specs.Prelude.{ℕ, zero, suc, Bool, true, false, ℤ, pos, negsuc, Ok, Err, Result}
+use Rattle.std.specs.Prelude.{zero, suc, Bool, true, false, ℤ, pos, negsuc, Ok, Err, Result}
 use Rattle.values.specs.declared.Fault.{Fault}
-use Rattle.values.specs.declared.Fault.TheVariants.{TooLarge}
-use Rattle.values.specs.declared.Full.{Full}
 use Rattle.values.specs.Value.{Value, number}
-
-abbrev pub fitted : Result ℕ Full → Result ℕ Fault
-fitted (Ok n) = Ok n
-fitted (Err e) = Err TooLarge
 
 abbrev pub numbered : Result ℤ Fault → Result Value Fault
 numbered (Ok z) = Ok (number z)

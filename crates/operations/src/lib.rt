@@ -1,25 +1,28 @@
 //! The operators on values in cells.
 //!
 //! Each writes the cells of its value at the start of `out` and tells how many they are, or tells the fault. What `out` holds past them, or beside the fault of a value that is too large, is left open; beside any other fault it is as it was.
+//!
+//! Values come as plain cells, and the clauses speak of those that are a value's: a type for such cells would ask more of callers.
+//! A length comes back, and no slice of `out`: a clause cannot say what a buffer holds from which the result borrows.
 
 #![tactic(auto)]
 
 ghost use Rattle.std.specs.Prelude.{◌≡◌, ℕ, ◌≤◌, Bool, true, not, ◌&&◌, List, [], ◌∷◌, ◌++◌, length, take, ℤ, pos, IfOk, if◌then◌else◌, Ok, Err, OnErr, slice_index_or};
 ghost use Rattle.std.specs.Ordering.{is_eq};
-ghost use Rattle.syntax.specs.declared.Collection.{Collection as Kind};
 ghost use Rattle.syntax.specs.declared.Collection.TheVariants.{Set, Sequence};
 ghost use Rattle.values.specs.Value.{Value, truth, cells, of, by_cells};
+ghost use Rattle.values.specs.Kinds.{cell};
 ghost use Rattle.values.specs.Lawful.{Lawful, ascending};
 ghost use Rattle.values.specs.Sets.{member, every};
 ghost use Rattle.values.specs.Cells.{told, in_cells, Spared};
 ghost use Rattle.values.specs.Operators.{is as is_of, operand as operand_of, left as left_of, right as right_of, takes as takes_both, unary as unary_of, binary as binary_of, nth, at as at_of, tail as tail_of, members, select as select_of, range as range_of, grow as grow_of};
-ghost use Rattle.operations.specs.Fit.{fitted, numbered, is_true};
+ghost use Rattle.operations.specs.Fit.{numbered, is_true};
 ghost use Rattle.operations.specs.Laws.{Lawfuls, Subject, Room};
 
 use numbers::Division;
 use sets::Blend;
 use syntax::{Binary, Collection, Unary};
-use values::{Fault, Full, Operand};
+use values::{Fault, Kind, Operand};
 
 /// What the operators make of lawful values is lawful.
 pub fn lawful_results()
@@ -101,26 +104,20 @@ fn flag(a: &[i32]) -> bool
     values::content(a) != 0
 }
 
-fn pair(out: &mut [i32; 200], kind: i32, content: i32) -> Result<usize, Fault>
-    ensures is { result ≡ Ok 2 }
-    ensures holds { take 2 out.new ≡ kind ∷ content ∷ [] }
+/// Writes a pair of cells. Says how many they are.
+fn pair(out: &mut [i32; 200], kind: Kind, content: i32) -> usize
+    ensures is { result ≡ 2 }
+    ensures holds { take 2 out.new ≡ cell kind ∷ content ∷ [] }
 {
-    out[0] = kind;
-    out[1] = content;
-    Ok(2)
-}
-
-fn bit(b: bool) -> i32
-    ensures { result ≡ (if b then pos 1 else pos 0) }
-{
-    if b { 1 } else { 0 }
+    out[..2].copy_from_slice(&[kind as i32, content]);
+    2
 }
 
 fn answer(out: &mut [i32; 200], b: bool) -> Result<usize, Fault>
     ensures is { result ≡ Ok 2 }
     ensures holds { take 2 out.new ≡ cells (truth b) }
 {
-    pair(out, 1, bit(b))
+    Ok(pair(out, Kind::Truth, i32::from(b)))
 }
 
 fn number(out: &mut [i32; 200], x: Result<i32, Fault>) -> Result<usize, Fault>
@@ -128,30 +125,14 @@ fn number(out: &mut [i32; 200], x: Result<i32, Fault>) -> Result<usize, Fault>
     ensures gives { told result out.new ≡ in_cells (numbered x) }
     ensures spared { Spared result out.old out.new }
 {
-    match x {
-        Ok(z) => pair(out, 0, z),
-        Err(e) => Err(e),
-    }
+    Ok(pair(out, Kind::Number, x?))
 }
 
-fn fit(x: Result<usize, Full>) -> Result<usize, Fault>
-    ensures { result ≡ fitted x }
-{
-    match x {
-        Ok(n) => Ok(n),
-        Err(_) => Err(Fault::TooLarge),
-    }
-}
-
-/// Whether two values are the same: numbers and truth values by their two cells.
+/// Whether two values are the same.
 fn equal(a: &[i32], b: &[i32]) -> bool
     ensures { result ≡ is_eq (by_cells a.now b.now) }
 {
-    if a.len() == 2 && b.len() == 2 {
-        a[0] == b[0] && a[1] == b[1]
-    } else {
-        values::compare(a, b).is_eq()
-    }
+    a == b
 }
 
 /// The member with the number `n`, counted from 1.
@@ -160,10 +141,8 @@ fn pick(a: &[i32], n: usize, out: &mut [i32; 200]) -> Result<usize, Fault>
     ensures gives { (k : Collection) (vs : List Value) → a.now ≡ cells (of k vs) → length a.now ≤ 200 → told result out.new ≡ in_cells (nth n vs) }
     ensures spared { Spared result out.old out.new }
 {
-    match sequences::pick(a, n) {
-        Ok(x) => fit(values::append(out, 0, x)),
-        Err(e) => Err(e),
-    }
+    let member = sequences::pick(a, n)?;
+    values::append(out, 0, member).map_err(Fault::from)
 }
 
 /// The member that a sequence has at an index.
@@ -187,7 +166,7 @@ fn tail(a: &[i32], out: &mut [i32; 200]) -> Result<usize, Fault>
     if values::content(a) < 1 {
         return Err(Fault::OutOfBounds);
     }
-    fit(sequences::tail(a, out))
+    sequences::tail(a, out).map_err(Fault::from)
 }
 
 /// Whether a set is a part of another.
@@ -229,8 +208,8 @@ pub fn unary(op: Unary, a: &[i32], out: &mut [i32; 200]) -> Result<usize, Fault>
         Unary::Card | Unary::Len => number(out, Ok(values::content(a))),
         Unary::Hd => pick(a, 1, out),
         Unary::Tl => tail(a, out),
-        Unary::Elems => fit(sets::gather(values::inner(a), out)),
-        Unary::Inds => fit(sequences::range(1, values::content(a), out)),
+        Unary::Elems => sets::gather(values::inner(a), out).map_err(Fault::from),
+        Unary::Inds => sequences::range(1, values::content(a), out).map_err(Fault::from),
     }
 }
 
@@ -262,10 +241,10 @@ pub fn binary(op: Binary, a: &[i32], b: &[i32], out: &mut [i32; 200]) -> Result<
         Binary::Div => number(out, numbers::divide(Division::Div, x, y)),
         Binary::Rem => number(out, numbers::divide(Division::Rem, x, y)),
         Binary::Mod => number(out, numbers::divide(Division::Mod, x, y)),
-        Binary::Union => fit(sets::combine(Blend::Union, a, b, out)),
-        Binary::Difference => fit(sets::combine(Blend::Difference, a, b, out)),
-        Binary::Inter => fit(sets::combine(Blend::Inter, a, b, out)),
-        Binary::Concat => fit(sequences::join(a, b, out)),
+        Binary::Union => sets::combine(Blend::Union, a, b, out).map_err(Fault::from),
+        Binary::Difference => sets::combine(Blend::Difference, a, b, out).map_err(Fault::from),
+        Binary::Inter => sets::combine(Blend::Inter, a, b, out).map_err(Fault::from),
+        Binary::Concat => sequences::join(a, b, out).map_err(Fault::from),
         Binary::Apply => apply(a, y, out),
     }
 }
@@ -288,20 +267,17 @@ pub fn range(a: &[i32], b: &[i32], out: &mut [i32; 200]) -> Result<usize, Fault>
     ensures gives { (v w : Value) → a.now ≡ cells v → b.now ≡ cells w → Lawful v → Lawful w → told result out.new ≡ in_cells (range_of v w) }
     ensures spared { Spared result out.old out.new }
 {
-    if !fits(Operand::Number, a) {
+    if !fits(Operand::Number, a) || !fits(Operand::Number, b) {
         return Err(Fault::WrongKind);
     }
-    if !fits(Operand::Number, b) {
-        return Err(Fault::WrongKind);
-    }
-    fit(sequences::range(values::content(a), values::content(b), out))
+    sequences::range(values::content(a), values::content(b), out).map_err(Fault::from)
 }
 
 /// A growing collection in the first `n` cells takes the value behind them as a member. Beside a fault nothing changes.
 pub fn grow(s: &mut [i32], n: usize) -> Result<usize, Fault>
     ensures inside { IfOk result (λ m. m ≤ length s.old) }
-    ensures gives { (k : Kind) (us : List Value) (v : Value) → s.old ≡ cells (of k us) ++ cells v → length (cells (of k us)) ≡ n → Lawful (of k us) → told result s.new ≡ in_cells (grow_of k us v) }
+    ensures gives { (k : Collection) (us : List Value) (v : Value) → s.old ≡ cells (of k us) ++ cells v → length (cells (of k us)) ≡ n → Lawful (of k us) → told result s.new ≡ in_cells (grow_of k us v) }
     ensures unchanged { OnErr result (s.new ≡ s.old) }
 {
-    fit(sets::grow(s, n))
+    sets::grow(s, n).map_err(Fault::from)
 }

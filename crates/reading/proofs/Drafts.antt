@@ -1,5 +1,5 @@
 -- From tokens and tree to the promises of `read`.
-use Rattle.std.proofs.Common.{◌≡◌, ℕ, suc, ◌≤◌, List, [], ◌∷◌, ◌++◌, map, length, drop, Some, None, Ok, Err, Option, sym, refl, ap, ◌∙◌, subst, inl, inr, arith}
+use Rattle.std.proofs.Common.{◌≡◌, ℕ, suc, ◌+◌, ◌<◌, ◌≤◌, false, List, [], ◌∷◌, ◌++◌, map, length, drop, Some, None, Ok, Err, Option, sym, refl, ap, ◌∙◌, subst, inl, inr, arith, length-append}
 use Rattle.syntax.specs.Tree.{Tree}
 use Rattle.tables.specs.declared.Table.{Table}
 use Rattle.tables.specs.Items.{items}
@@ -10,15 +10,21 @@ use Rattle.tokens.specs.Pieces.{Cut, at_end, at_separator, at_comment, at_token,
 use Rattle.tokens.specs.Cutting.{Answers, CutInto}
 use Rattle.tokens.proofs.Forms.{longest_some}
 use Rattle.tokens.proofs.Unique.{one_cutting}
-use Rattle.std.proofs.lemmas.List.{length-map}
+use Rattle.std.proofs.lemmas.List.{length-map, nil_from_length}
 use Rattle.grammar.specs.Places.{places, Distinct, Ascend, spots}
 use Rattle.grammar.proofs.Places.{own_places}
 use Rattle.grammar.specs.Grammar.{Sort, Derives}
-use Rattle.grammar.specs.Steps.{first}
-use Rattle.grammar.specs.Sentences.{Accepted, Refused}
+use Rattle.grammar.specs.Steps.{first, parse, body, out, Run}
+use Rattle.grammar.specs.Sentences.{Accepted, Refused, Comes}
+use Rattle.grammar.proofs.Sentences.{sound, first_bad}
+use Rattle.grammar.proofs.Runs.{local}
+use Rattle.std.proofs.Math.Seq.{drop-append_seam}
+use Rattle.reading.specs.declared.source.Bad.{Bad}
+use Rattle.reading.specs.declared.source.Reader.{Reader}
 use Rattle.reading.specs.declared.call.Refusal.{Refusal}
 use Rattle.reading.specs.declared.call.Refusal.TheVariants.{NoToken}
-use Rattle.reading.specs.Reading.{told, place_or, Sentence, Denied}
+use Rattle.reading.specs.Sources.{left, place_at, place_or, TreeAt, Way, Got}
+use Rattle.reading.specs.Reading.{told, Sentence, Denied, Parsed}
 
 module _ (text : List ℕ) (ts : List Token) (cut : Cut 0 text ts None) where
   derives : (u : Tree) → Sentence text u → Derives Sort.expr (map (lexeme text) ts) u
@@ -39,6 +45,35 @@ bad_denied text ts p cut = record {
   none = λ u s. let e = (one_cutting cut s.cut).1 in let z : ◌≡◌ {A = ℕ} 0 1 = cc in omega arith;
   why = inl (record { tokens = ts; place = p; cut = cut; says = refl });
 }
+
+-- where the reader came to an end
+module _ {r r' : Reader} {v : Option Tree} (w : Way (parse Sort.expr false) (body (parse Sort.expr false)) r false r' v) where
+  abbrev pub taken : List Lexeme
+  taken = (local w.run).used
+
+  come_to : left r' ≡ drop (length taken) (left r)
+  come_to = sym (ap (drop (length taken)) (local w.run).split ∙ drop-append_seam taken (left r'))
+
+  all : length (left r) ≡ length taken + length (left r')
+  all = ap length (local w.run).split ∙ length-append taken (left r')
+
+  pub come : Comes Sort.expr (left r) v (drop (length taken) (left r))
+  come = (w.then, subst (λ us. Run (parse Sort.expr false) (body (parse Sort.expr false)) (left r) false (out v us w.then)) come_to w.run)
+
+  pub at_place : place_at r' ≡ place_or (length r.text.now) (first (drop (length taken) (left r)))
+  at_place = ap (λ text. place_or (length text) (first (left r'))) w.later.text ∙ ap (λ us. place_or (length r.text.now) (first us)) come_to
+
+module _ {r r' : Reader} where
+  pub stopped : (e : Bad) → Way (parse Sort.expr false) (body (parse Sort.expr false)) r false r' None → Parsed r r' (Err e)
+  stopped e w = (length (taken w), (first_bad.refused Sort.expr (left r) _ (omega (arith, all w)) (come w), at_place w))
+
+  pub left_over : (e : Bad) (t : Tree) → Way (parse Sort.expr false) (body (parse Sort.expr false)) r false r' (Some t) → 0 < length r'.rest.now → Parsed r r' (Err e)
+  left_over e t w h =
+      let n = length-map r'.rest.now (lexeme r'.text.now) in
+      (length (taken w), (first_bad.left Sort.expr (left r) _ t (omega (arith, all w)) (come w), at_place w))
+
+  pub whole : (node : ℕ) (g : Got (parse Sort.expr false) (body (parse Sort.expr false)) r false r' (TreeAt r' node)) → length r'.rest.now ≡ 0 → Parsed r r' (Ok node)
+  whole node g h = (g.value, (sound Sort.expr (left r) g.value (g.way.then, subst (λ us. Run (parse Sort.expr false) (body (parse Sort.expr false)) (left r) false (out (Some g.value) us g.way.then)) (ap (map (lexeme r'.text.now)) (nil_from_length _ h)) g.way.run), rw g.way.later.text at g.held))
 
 -- what the tokeniser found, in a table that was empty and had a slot for each byte
 module _ (text : List ℕ) (t t' : Table Token) (empty : items t ≡ []) where

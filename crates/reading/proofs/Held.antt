@@ -1,11 +1,18 @@
 -- What a table holds it still holds when entries are added.
-use Rattle.std.proofs.Common.{◌≡◌, ℕ, List, [], ◌∷◌, ◌++◌, length, get_or, Some, Option, sym, refl, ap, ◌∙◌, subst, append_assoc, append-nil, arith, length-append}
+use Rattle.std.proofs.Common.{◌≡◌, ℕ, ◌+◌, List, [], ◌∷◌, ◌++◌, length, get_or, Some, Option, sym, refl, ap, ◌∙◌, subst, append_assoc, append-nil, arith, length-append}
 use Rattle.std.proofs.lemmas.List.{get_or_append_left, get_or_push}
 use Rattle.syntax.specs.Tree.{Pattern, Patterns, Tree, Trees, Alternatives, Optional}
 use Rattle.reading.specs.declared.entry.Entry.{Entry}
+use Rattle.reading.specs.declared.source.Reader.{Reader}
+use Rattle.reading.specs.Sources.{made, Later, Moves, TreeAt, TreesAt, PatternAt, PatternsAt, BindAt, ArmsAt, IsName, IsNumeral}
+use Rattle.tokens.specs.Lexeme.{Lexeme}
+use Rattle.reading.specs.declared.entry.Span.{Span}
+use Rattle.reading.specs.declared.source.Binding.{Binding}
+use Rattle.reading.specs.declared.source.Branches.{Branches}
+use Rattle.grammar.specs.Steps.{Bind, Arms}
 use Rattle.reading.specs.declared.entry.Entry.TheVariants as entry
 use Rattle.grammar.specs.Grammar.{Operation, join}
-use Rattle.reading.specs.Entries.{joined, Stands, Extends, HoldsPattern, HoldsPatterns, Holds, HoldsItems, HoldsArms, HoldsOptional}
+use Rattle.reading.specs.Entries.{spelled, joined, Stands, Extends, HoldsPattern, HoldsPatterns, Holds, HoldsItems, HoldsArms, HoldsOptional}
 
 pub stands_more : {es es' : List Entry} {i : ℕ} {e : Entry} → Extends es es' → Stands es i e → Stands es' i e
 stands_more {es} {es'} {i} {e} x s =
@@ -17,6 +24,14 @@ same es = record { more = []; grown = sym (append-nil es) }
 
 pub then_more : {es es' es'' : List Entry} → Extends es es' → Extends es' es'' → Extends es es''
 then_more {es} x y = record { more = x.more ++ y.more; grown = y.grown ∙ ap (λ us. us ++ y.more) x.grown ∙ append_assoc es x.more y.more }
+
+-- a reader, and the same reader later
+infixr 20 ◌then◌
+pub ◌then◌ : {r r' r'' : Reader} → Later r r' → Later r' r'' → Later r r''
+x then y = record { text = y.text ∙ x.text; entries = then_more x.entries y.entries }
+
+pub then_moves : {r r' r'' : Reader} (m n : ℕ) → Moves m r r' → Moves n r' r'' → Moves (m + n) r r''
+then_moves m n x y = record { later = x.later then y.later; few = y.few ∙ x.few; room = y.room ∙ x.room; taken = omega arith }
 
 -- one entry more
 pub added : (es es' : List Entry) (e : Entry) → es' ≡ es ++ e ∷ [] → Extends es es'
@@ -69,7 +84,36 @@ module _ (text : List ℕ) {es es' : List Entry} (x : Extends es es') where
     optional_more o Optional.absent h = h
     optional_more o (Optional.present t) (i, (e, h)) = (i, (e, tree_more i t h))
 
+-- what was read is still held later
+module _ {r r' : Reader} (l : Later r r') where
+  pub tree_later : (i : ℕ) (t : Tree) → TreeAt r i t → TreeAt r' i t
+  tree_later i t h = subst (λ us. Holds us (made r') i t) (sym l.text) (tree_more r.text.now l.entries i t h)
+
+  pub trees_later : (i : ℕ) (ts : Trees) → TreesAt r i ts → TreesAt r' i ts
+  trees_later i ts h = subst (λ us. HoldsItems us (made r') (Some i) ts) (sym l.text) (items_more r.text.now l.entries (Some i) ts h)
+
+  pub pattern_later : (i : ℕ) (p : Pattern) → PatternAt r i p → PatternAt r' i p
+  pattern_later i p h = subst (λ us. HoldsPattern us (made r') i p) (sym l.text) (pattern_more r.text.now l.entries i p h)
+
+  pub patterns_later : (i : ℕ) (ps : Patterns) → PatternsAt r i ps → PatternsAt r' i ps
+  patterns_later i ps h = subst (λ us. HoldsPatterns us (made r') (Some i) ps) (sym l.text) (patterns_more r.text.now l.entries (Some i) ps h)
+
+  pub arms_later : (b : Branches) (a : Arms) → ArmsAt r b a → ArmsAt r' b a
+  arms_later b a h = subst (λ us. HoldsArms us (made r') (Some b.first) a.arms × HoldsOptional us (made r') b.others a.others) (sym l.text) (arms_more r.text.now l.entries _ a.arms h.0, optional_more r.text.now l.entries _ a.others h.1)
+
+  pub bind_later : (b : Binding) (c : Bind) → BindAt r b c → BindAt r' b c
+  bind_later b c h = subst (λ us. (spelled us b.name ≡ c.name) × Holds us (made r') b.set c.set) (sym l.text) (h.0, tree_more r.text.now l.entries _ c.set h.1)
+
+  pub name_later : (x : Lexeme) (s : Span) → IsName r.text.now x s → IsName r'.text.now x s
+  name_later x s h = rw l.text h
+
+  pub numeral_later : (x : Lexeme) (s : Span) → IsNumeral r.text.now x s → IsNumeral r'.text.now x s
+  numeral_later x s h = rw l.text h
+
+  pub spelled_later : (s : Span) → spelled r'.text.now s ≡ spelled r.text.now s
+  spelled_later s = rw l.text refl
+
 -- an operation between two operands
-pub holds_join : (text : List ℕ) (es : List Entry) (o : Operation) (p n i j : ℕ) (a b : Tree) → Stands es n (joined o p i j) → Holds text es i a → Holds text es j b → Holds text es n (join o p a b)
-holds_join text es (Operation.strict o) p n i j a b st h g = (i, j, (st, (h, g)))
-holds_join text es (Operation.deciding o) p n i j a b st h g = (i, j, (st, (h, g)))
+pub holds_join : (r : Reader) (o : Operation) (p n i j : ℕ) (a b : Tree) → Stands (made r) n (joined o p i j) → TreeAt r i a → TreeAt r j b → TreeAt r n (join o p a b)
+holds_join r (Operation.strict o) p n i j a b st h g = (i, j, (st, (h, g)))
+holds_join r (Operation.deciding o) p n i j a b st h g = (i, j, (st, (h, g)))

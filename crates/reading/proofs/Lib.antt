@@ -1,5 +1,5 @@
-pub mod Looking
 pub mod Held
+pub mod Looking
 pub mod Ways
-pub mod Ranks
 pub mod Drafts
+pub mod Ranks

@@ -1,13 +1,15 @@
 -- Measures of the calls for expressions.
-use Rattle.std.proofs.Common.{ℕ, ◌-◌, ◌*◌}
+use Rattle.std.proofs.Common.{ℕ, ◌*◌}
+use Rattle.reading.specs.declared.source.Reader.{Reader}
+use Rattle.reading.specs.Sources.{ahead}
 use Rattle.reading.specs.declared.signs.Left.{Left}
 use Rattle.reading.specs.declared.signs.Left.TheVariants as left
 use Rattle.reading.specs.declared.signs.Lead.{Lead}
 use Rattle.reading.specs.declared.signs.Lead.TheVariants as lead
 
--- of so many tokens, those from n on
-abbrev pub left_of : ℕ → ℕ → ℕ
-left_of size n = 40 * (size - n)
+-- for each token left
+abbrev pub left_of : Reader → ℕ
+left_of r = 40 * ahead r
 
 abbrev pub chain_rank : Left → ℕ
 chain_rank left.Iff = 19

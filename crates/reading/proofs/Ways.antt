@@ -1,169 +1,139 @@
--- How far a function has followed its program, and how it ends.
-use Rattle.std.proofs.Common.{◌≡◌, ℕ, ◌+◌, ◌<◌, ◌≤◌, Bool, true, false, List, [], ◌∷◌, ◌++◌, length, Ok, Err, sym, refl, ap, ◌∙◌, subst, arith, length-append}
+-- How a function follows its program, step by step, and how it ends.
+use Rattle.std.proofs.Common.{◌≡◌, ℕ, ◌⊎◌, Bool, true, false, Some, None, Ok, Err, Option, sym, refl, subst, inl, inr}
 use Rattle.std.specs.declared.result.Result as result
-use Rattle.tables.specs.declared.Table.{Table}
-use Rattle.tables.specs.Items.{items, room}
+use Rattle.std.specs.Result.{IsErrAnd}
 use Rattle.tokens.specs.Lexeme.{Lexeme}
-use Rattle.grammar.specs.Steps.{Test, Job, Result, Prog, ret, on, want, ahead, call, Out, first, second, Hits, Misses, body, Run, r_ret, r_on, r_off, r_want, r_refuse, r_both, r_only, r_none, r_call, r_fails}
+use Rattle.tokens.specs.declared.Mark.TheVariants as sign
+use Rattle.syntax.specs.Tree.{Tree, Trees, Pattern, Patterns}
+use Rattle.grammar.specs.Steps.{Test, is, Job, Limit, Next, after_item, after_pattern, Result, Prog, ret, on, want, ahead, call, out, first, second, Hits, Misses, body, Run, r_ret, r_on, r_off, r_want, r_refuse, r_both, r_only, r_none, r_call, r_fails}
 use Rattle.reading.specs.declared.entry.Entry.{Entry}
-use Rattle.reading.specs.declared.source.Source.{Source}
-use Rattle.reading.specs.Entries.{Extends}
-use Rattle.reading.specs.Sources.{from, size, Sees, Fits, Got, Lost, Came}
-use Rattle.reading.proofs.Held.{same, then_more, added}
+use Rattle.reading.specs.declared.source.Bad.{Bad}
+use Rattle.reading.specs.declared.source.Limit as own
+use Rattle.reading.specs.declared.source.Reader.{Reader}
+use Rattle.reading.specs.Sources.{limit_of, left, Takes, Leaves, Both, Alone, Follows, Puts, Way, Came}
+use Rattle.reading.proofs.Held.{same, ◌then◌}
 
--- From q at token n, with the table t, the function has come to p at token m, with the table t'. It may add c entries more than it
--- reads tokens from here on; at its start it was k.
-pub record Reached (i : Job) (q : Prog (Result i)) (s : Source) (n : ℕ) (far : Bool) (k : ℕ) (t : Table Entry) (p : Prog (Result i)) (m : ℕ) (far' : Bool) (t' : Table Entry) (c : ℕ) : Type 0 where
-  pub step : (o : Out (Result i)) → Run i p (from s m) far' o → Run i q (from s n) far o
-  pub kept : Extends (items t) (items t')
-  pub few : length (items t') + n + c ≤ length (items t) + m + k
-  pub slots : room t' ≡ room t
-  pub forth : n ≤ m
-  pub inside : m ≤ size s
-
-pub start : (i : Job) (q : Prog (Result i)) (s : Source) (n : ℕ) (far : Bool) (k : ℕ) (t : Table Entry) → Fits s n k t → Reached i q s n far k t q n far t k
-start i q s n far k t h = record { step = λ o r. r; kept = same (items t); few = omega arith; slots = refl; forth = omega arith; inside = h.inside }
-
-module _ {i : Job} {q : Prog (Result i)} {s : Source} {n : ℕ} {far : Bool} {δ : ℕ} {t : Table Entry} where
-  -- the program is written otherwise
-  pub becoming : {p p' : Prog (Result i)} {m : ℕ} {far' : Bool} {t' : Table Entry} {c : ℕ} → p ≡ p' → Reached i q s n far δ t p m far' t' c → Reached i q s n far δ t p' m far' t' c
-  becoming {m} {far'} {t'} {c} e w = subst (λ x. Reached i q s n far δ t x m far' t' c) e w
-
-  -- the token's number is written otherwise
-  pub moved : {p : Prog (Result i)} {m m' : ℕ} {far' : Bool} {t' : Table Entry} {c : ℕ} → m ≡ m' → Reached i q s n far δ t p m far' t' c → Reached i q s n far δ t p m' far' t' c
-  moved {p} {far' = far'} {t'} {c} e w = subst (λ l. Reached i q s n far δ t p l far' t' c) e w
-
-  -- two tokens were looked at: both were taken, or the first alone passes, or it does not
-  pub both : {x y : Test} {r p : Prog (Result i)} {k : Lexeme → Prog (Result i)} {m : ℕ} {far' : Bool} {t' : Table Entry} {c : ℕ} → Reached i q s n far δ t (ahead x y r p k) m far' t' c → (h : Sees s m x) → Sees s (m + 1) y → Reached i q s n far δ t (k h.token) (m + 1 + 1) false t' (c + 2)
-  both {x} {y} {r} {p} {k} {m} {far'} w h g = record {
-    step = λ o z. w.step o (subst (λ us. Run i (ahead x y r p k) us far' o) (sym (h.here ∙ ap {B = List Lexeme} (λ us. h.token ∷ us) g.here)) (r_both h.passes g.passes z));
-    kept = w.kept;
-    few = omega (arith, w.few);
-    slots = w.slots;
-    forth = omega (arith, w.forth);
-    inside = omega (arith, g.inside);
+module _ {i : Job} {r r' : Reader} {far : Bool} {v : Option (Result i)} where
+  -- the next token was taken, where it had to come
+  pub wanted : {t : Test} {k : Lexeme → Prog (Result i)} {s : Reader} (h : Takes r s t) → Way i (k h.token) s false r' v → Way i (want t k) r far r' v
+  wanted {t} {k} h w = record {
+    then = w.then;
+    run = subst (λ us. Run i (want t k) us far (out v (left r') w.then)) (sym h.here) (r_want h.passes w.run);
+    later = h.moves.later then w.later;
   }
 
-  pub only : {x y : Test} {r p : Prog (Result i)} {k : Lexeme → Prog (Result i)} {m : ℕ} {far' : Bool} {t' : Table Entry} {c : ℕ} → Reached i q s n far δ t (ahead x y r p k) m far' t' c → Sees s m x → Misses y (first (from s (m + 1))) → Reached i q s n far δ t p m true t' c
-  only {x} {y} w h g = record {
-    step = λ o z. w.step o (r_only (subst (λ us. Hits x (first us)) (sym h.here) h.passes) (subst (λ us. Misses y (second us)) (sym h.here) g) z);
-    kept = w.kept;
-    few = w.few;
-    slots = w.slots;
-    forth = w.forth;
-    inside = w.inside;
+  -- it was taken, where it may come
+  pub taken : {t : Test} {p : Prog (Result i)} {k : Lexeme → Prog (Result i)} {s : Reader} (h : Takes r s t) → Way i (k h.token) s false r' v → Way i (on t p k) r far r' v
+  taken {t} {p} {k} h w = record {
+    then = w.then;
+    run = subst (λ us. Run i (on t p k) us far (out v (left r') w.then)) (sym h.here) (r_on h.passes w.run);
+    later = h.moves.later then w.later;
   }
 
-  pub neither : {x y : Test} {r p : Prog (Result i)} {k : Lexeme → Prog (Result i)} {m : ℕ} {far' : Bool} {t' : Table Entry} {c : ℕ} → Reached i q s n far δ t (ahead x y r p k) m far' t' c → Misses x (first (from s m)) → Reached i q s n far δ t r m far' t' c
-  neither w h = record { step = λ o z. w.step o (r_none h z); kept = w.kept; few = w.few; slots = w.slots; forth = w.forth; inside = w.inside }
-
-  -- the next token was taken
-  pub wanted : {x : Test} {k : Lexeme → Prog (Result i)} {m m' : ℕ} {far' : Bool} {t' : Table Entry} {c : ℕ} → Reached i q s n far δ t (want x k) m far' t' c → (h : Sees s m x × (m' ≡ m + 1)) → Reached i q s n far δ t (k h.0.token) m' false t' (c + 1)
-  wanted {x} {k} {m} {m'} {far'} {t'} {c} w h = subst (λ l. Reached i q s n far δ t (k h.0.token) l false t' (c + 1)) (sym h.1) (record {
-    step = λ o r. w.step o (subst (λ us. Run i (want x k) us far' o) (sym h.0.here) (r_want h.0.passes r));
-    kept = w.kept;
-    few = omega (arith, w.few);
-    slots = w.slots;
-    forth = omega (arith, w.forth);
-    inside = omega (arith, h.0.inside);
-  })
-
-  pub taken : {x : Test} {p : Prog (Result i)} {k : Lexeme → Prog (Result i)} {m : ℕ} {far' : Bool} {t' : Table Entry} {c : ℕ} → Reached i q s n far δ t (on x p k) m far' t' c → (h : Sees s m x) → Reached i q s n far δ t (k h.token) (m + 1) false t' (c + 1)
-  taken {x} {p} {k} {m} {far'} w h = record {
-    step = λ o r. w.step o (subst (λ us. Run i (on x p k) us far' o) (sym h.here) (r_on h.passes r));
-    kept = w.kept;
-    few = omega (arith, w.few);
-    slots = w.slots;
-    forth = omega (arith, w.forth);
-    inside = omega (arith, h.inside);
+  -- it was another
+  pub passed : {t : Test} {p : Prog (Result i)} {k : Lexeme → Prog (Result i)} {s : Reader} → Leaves r s t → Way i p s far r' v → Way i (on t p k) r far r' v
+  passed {t} {p} {k} {s} h w = record {
+    then = w.then;
+    run = r_off h.misses (subst (λ us. Run i p us far (out v (left r') w.then)) (sym h.here) w.run);
+    later = h.moves.later then w.later;
   }
 
-  -- it was another token
-  pub passed : {x : Test} {p : Prog (Result i)} {k : Lexeme → Prog (Result i)} {m : ℕ} {far' : Bool} {t' : Table Entry} {c : ℕ} → Reached i q s n far δ t (on x p k) m far' t' c → Misses x (first (from s m)) → Reached i q s n far δ t p m far' t' c
-  passed w h = record { step = λ o r. w.step o (r_off h r); kept = w.kept; few = w.few; slots = w.slots; forth = w.forth; inside = w.inside }
+  -- two tokens were taken, or neither
+  pub both : {t u : Test} {q p : Prog (Result i)} {k : Lexeme → Prog (Result i)} {s : Reader} (h : Both r s t u) → Way i (k h.token) s false r' v → Way i (ahead t u q p k) r far r' v
+  both {t} {u} {q} {p} {k} h w = record {
+    then = w.then;
+    run = subst (λ us. Run i (ahead t u q p k) us far (out v (left r') w.then)) (sym h.here) (r_both h.passes h.passes_too w.run);
+    later = h.moves.later then w.later;
+  }
+
+  pub neither : {t u : Test} {p : Prog (Result i)} {k : Lexeme → Prog (Result i)} {s : Reader} → Alone r s t u → ((far : Bool) → Way i p s far r' v) → Way i (ahead t u p p k) r far r' v
+  neither {t} {u} {p} {k} {s} h w = go h.misses
+    where
+      on_left : {far : Bool} (w : Way i p s far r' v) → Run i p (left r) far (out v (left r') w.then)
+      on_left {far} w = subst (λ us. Run i p us far (out v (left r') w.then)) (sym h.here) w.run
+
+      go : Misses t (first (left r)) ⊎ (Hits t (first (left r)) × Misses u (second (left r))) → Way i (ahead t u p p k) r far r' v
+      go (inl m) = record { then = (w far).then; run = r_none m (on_left (w far)); later = h.moves.later then (w far).later }
+      go (inr m) = record { then = (w true).then; run = r_only m.0 m.1 (on_left (w true)); later = h.moves.later then (w true).later }
 
   -- a function was called, and came to a value
-  pub called : {j : Job} {k : Result j → Prog (Result i)} {m l : ℕ} {far' : Bool} {t' t'' : Table Entry} {c d : ℕ} {holds : Result j → Type 0} (e : ℕ) → Reached i q s n far δ t (call j k) m far' t' c → e + d ≤ c → (g : Got j (body j) s m far' d t' t'' l holds) → Reached i q s n far δ t (k g.value) l g.then t'' e
-  called e w h g = record {
-    step = λ o r. w.step o (r_call g.run r);
-    kept = then_more w.kept g.kept;
-    few = omega (arith, w.few, g.few);
-    slots = g.slots ∙ w.slots;
-    forth = omega (arith, w.forth, g.on);
-    inside = g.inside;
-  }
+  pub called : {N : Type 0} {j : Job} {k : Result j → Prog (Result i)} {s : Reader} {holds : Reader → N → Result j → Type 0} {x : N} (g : Came j (body j) r far s holds (Ok x)) → Way i (k g.ends.value) s g.ends.way.then r' v → Way i (call j k) r far r' v
+  called g w = record { then = w.then; run = r_call g.ends.way.run w.run; later = g.ends.way.later then w.later }
 
   -- an entry was added
-  pub putting : {p : Prog (Result i)} {m : ℕ} {far' : Bool} {t' t'' : Table Entry} {c : ℕ} (d : ℕ) (e : Entry) → Reached i q s n far δ t p m far' t' c → d + 1 ≤ c → items t'' ≡ items t' ++ e ∷ [] → room t'' ≡ room t' → Reached i q s n far δ t p m far' t'' d
-  putting {t'} {t''} d e w h g r = record {
-    step = w.step;
-    kept = then_more w.kept (added (items t') (items t'') e g);
-    few = omega (arith, w.few, ap length g, length-append (items t') (e ∷ []));
-    slots = r ∙ w.slots;
-    forth = w.forth;
-    inside = w.inside;
+  pub added : {p : Prog (Result i)} {s : Reader} {e : Entry} {n : ℕ} → Puts r s e n → Way i p s far r' v → Way i p r far r' v
+  added {p} h w = record {
+    then = w.then;
+    run = subst (λ us. Run i p us far (out v (left r') w.then)) (sym h.here) w.run;
+    later = h.later then w.later;
   }
 
-  -- credit that is not needed
-  pub less : {p : Prog (Result i)} {m : ℕ} {far' : Bool} {t' : Table Entry} {c : ℕ} (d : ℕ) → Reached i q s n far δ t p m far' t' c → d ≤ c → Reached i q s n far δ t p m far' t' d
-  less d w h = record { step = w.step; kept = w.kept; few = omega (arith, w.few); slots = w.slots; forth = w.forth; inside = w.inside }
+  -- the program is written otherwise
+  pub rewritten : {p q : Prog (Result i)} → p ≡ q → Way i q r far r' v → Way i p r far r' v
+  rewritten e w = subst (λ p. Way i p r far r' v) (sym e) w
 
-  -- the ends: a call that refused, a token that was missed, a value
-  pub lost_call : {j : Job} {k : Result j → Prog (Result i)} {m l : ℕ} {far' : Bool} {t' t'' : Table Entry} {c : ℕ} → Reached i q s n far δ t (call j k) m far' t' c → Lost j (body j) s m far' t' t'' l → Lost i q s n far t t'' l
-  lost_call w g = record { then = g.then; run = w.step _ (r_fails g.run); slots = g.slots ∙ w.slots; inside = g.inside }
+module _ {i : Job} {r r' : Reader} {far : Bool} where
+  -- the ends: another token than had to come, a call that refused
+  pub refused : {t : Test} {k : Lexeme → Prog (Result i)} → Leaves r r' t → Way i (want t k) r far r' None
+  refused {t} {k} h = record { then = far; run = subst (λ us. Run i (want t k) (left r) far (out None us far)) h.here (r_refuse h.misses); later = h.moves.later }
 
-  pub lost_want : {x : Test} {k : Lexeme → Prog (Result i)} {m e : ℕ} {far' : Bool} {t' : Table Entry} {c : ℕ} → Reached i q s n far δ t (want x k) m far' t' c → (h : Misses x (first (from s m)) × (e ≡ m)) → Lost i q s n far t t' e
-  lost_want {e} {far' = far'} {t'} w h = subst (Lost i q s n far t t') (sym h.1) (record { then = far'; run = w.step _ (r_refuse h.0); slots = w.slots; inside = w.inside })
+  pub failed : {N : Type 0} {j : Job} {k : Result j → Prog (Result i)} {holds : Reader → N → Result j → Type 0} {e : Bad} → Came j (body j) r far r' holds (Err e) → Way i (call j k) r far r' None
+  failed w = record { then = w.ends.then; run = r_fails w.ends.run; later = w.ends.later }
 
-  pub returned : {a : Result i} {m : ℕ} {far' : Bool} {t' : Table Entry} {c : ℕ} (holds : Result i → Type 0) → Reached i q s n far δ t (ret a) m far' t' c → holds a → Got i q s n far δ t t' m holds
-  returned {a} {far' = far'} holds w h = record {
-    value = a;
-    then = far';
-    run = w.step _ r_ret;
-    held = h;
-    kept = w.kept;
-    few = omega (arith, w.few);
-    slots = w.slots;
-    on = w.forth;
-    inside = w.inside;
-  }
+-- a value
+pub ended : {i : Job} {r : Reader} {far : Bool} {a : Result i} → Way i (ret a) r far r (Some a)
+ended {far} = record { then = far; run = r_ret; later = record { text = refl; entries = same _ } }
 
-  pub returned_at : {a : Result i} {m m' : ℕ} {far' : Bool} {t' : Table Entry} {c : ℕ} (holds : Result i → Type 0) → m' ≡ m → Reached i q s n far δ t (ret a) m far' t' c → holds a → Got i q s n far δ t t' m' holds
-  returned_at {t' = t'} holds e w h = subst (λ l. Got i q s n far δ t t' l holds) (sym e) (returned holds w h)
+module _ {N : Type 0} {i : Job} {r r' : Reader} {far : Bool} {holds : Reader → N → Result i → Type 0} where
+  pub returned : {p : Prog (Result i)} {a : Result i} {x : N} → Way i p r far r' (Some a) → holds r' x a → Came i p r far r' holds (Ok x)
+  returned {a} w h = record { ends = record { value = a; way = w; held = h } }
 
-  -- a function that goes on where this one is, and ends as it does
-  pub tail : {N : Type 0} {p : Prog (Result i)} {m : ℕ} {far' : Bool} {t' : Table Entry} {c : ℕ} (t'' : Table Entry) (d : ℕ) (next : N → ℕ) (holds : List Entry → N → Result i → Type 0) (r : result.Result N ℕ) → Reached i q s n far δ t p m far' t' c → d ≤ c → Came i p s m far' d t' t'' next holds r → Came i q s n far δ t t'' next holds r
-  tail t'' d next holds (Ok r) w h g = record {
-    value = g.value;
-    then = g.then;
-    run = w.step _ g.run;
-    held = g.held;
-    kept = then_more w.kept g.kept;
-    few = omega (arith, w.few, g.few);
-    slots = g.slots ∙ w.slots;
-    on = omega (arith, w.forth, g.on);
-    inside = g.inside;
-  }
-  tail t'' d next holds (Err m) w h g = record { then = g.then; run = w.step _ g.run; slots = g.slots ∙ w.slots; inside = g.inside }
+  pub lost : {p : Prog (Result i)} (res : result.Result N Bad) (Q : Bad → Type 0) → IsErrAnd res Q → Way i p r far r' None → Came i p r far r' holds res
+  lost (Ok x) Q h w = absurd h
+  lost (Err e) Q h w = record { ends = w }
+
+  -- a function that ends as another does, behind some steps
+  pub tail : {p q : Prog (Result i)} {s : Reader} {far' : Bool} {res : result.Result N Bad} → Came i p s far' r' holds res → ((v : Option (Result i)) → Way i p s far' r' v → Way i q r far r' v) → Came i q r far r' holds res
+  tail {res = Ok x} g w = record { ends = record { value = g.ends.value; way = w (Some g.ends.value) g.ends.way; held = g.ends.held } }
+  tail {res = Err e} g w = record { ends = w None g.ends }
 
   -- a call whose value is the value
-  pub tail_call : {N : Type 0} {j : Job} {m : ℕ} {far' : Bool} {t' : Table Entry} {c : ℕ} (f : Result j → Result i) (t'' : Table Entry) (d : ℕ) (next : N → ℕ) (holds : List Entry → N → Result i → Type 0) (r : result.Result N ℕ) → Reached i q s n far δ t (call j (λ v. ret (f v))) m far' t' c → d ≤ c → Came j (body j) s m far' d t' t'' next (λ es x v. holds es x (f v)) r → Came i q s n far δ t t'' next holds r
-  tail_call f t'' d next holds (Ok r) w h g = record {
-    value = f g.value;
-    then = g.then;
-    run = w.step _ (r_call g.run r_ret);
-    held = g.held;
-    kept = then_more w.kept g.kept;
-    few = omega (arith, w.few, g.few);
-    slots = g.slots ∙ w.slots;
-    on = omega (arith, w.forth, g.on);
-    inside = g.inside;
-  }
-  tail_call f t'' d next holds (Err m) w h g = record { then = g.then; run = w.step _ (r_fails g.run); slots = g.slots ∙ w.slots; inside = g.inside }
+  pub passing : {j : Job} (f : Result j → Result i) {res : result.Result N Bad} → Came j (body j) r far r' (λ x n a. holds x n (f a)) res → Came i (call j (λ v. ret (f v))) r far r' holds res
+  unfolding called failed ended
+  passing f {res = Ok x} g = record { ends = record { value = f g.ends.value; way = called g ended; held = g.ends.held } }
+  passing f {res = Err e} g = record { ends = failed g }
 
-  -- there are slots for what is read from here on
-  pub fits : {p : Prog (Result i)} {m : ℕ} {far' : Bool} {t' : Table Entry} {c : ℕ} (d : ℕ) → Reached i q s n far δ t p m far' t' c → Fits s n δ t → d ≤ c → Fits s m d t'
-  fits d w f h = record { inside = w.inside; slots = omega (arith, w.few, w.slots, f.slots) }
+-- the parts of a list: behind one, a comma and more, or the end
+abbrev pub after : (i : Job) (parts : Limit → Job) → Prog (Result i) → ((l : Limit) → Result (parts l) → Prog (Result i)) → Next → Prog (Result i)
+after i parts p k (Next.may l) = on (is sign.Comma) p λ _. call (parts l) (k l)
+after i parts p k (Next.must l) = want (is sign.Comma) λ _. call (parts l) (k l)
+after i parts p k Next.last = p
 
-  pub slot : {p : Prog (Result i)} {m : ℕ} {far' : Bool} {t' : Table Entry} {c : ℕ} → Reached i q s n far δ t p m far' t' c → Fits s n δ t → 0 < c → length (items t') < room t'
-  slot w f h = omega (arith, w.few, w.slots, f.slots, w.inside)
+pub after_pattern_is : (l : Limit) (n : Next) (a : Pattern) → after_pattern n a ≡ after (Job.patterns l) Job.patterns (ret (Patterns.more a Patterns.none)) (λ _ ps. ret (Patterns.more a ps)) n
+after_pattern_is l (Next.may m) a = refl
+after_pattern_is l (Next.must m) a = refl
+after_pattern_is l Next.last a = refl
+
+pub after_item_is : (l : Limit) (n : Next) (a : Tree) → after_item n a ≡ after (Job.items l) Job.items (ret (Trees.more a Trees.none)) (λ _ ts. ret (Trees.more a ts)) n
+after_item_is l (Next.may m) a = refl
+after_item_is l (Next.must m) a = refl
+after_item_is l Next.last a = refl
+
+module _ {i : Job} (parts : Limit → Job) (p : Prog (Result i)) (k : (l : Limit) → Result (parts l) → Prog (Result i)) {r r' : Reader} {far : Bool} where
+  pub more : {s : Reader} {v : Option (Result i)} (n : Next) (m : own.Limit) → Follows n r s (Ok (Some m)) → Way i (call (parts (limit_of m)) (k (limit_of m))) s false r' v → Way i (after i parts p k n) r far r' v
+  unfolding taken wanted
+  more {s} {v} (Next.may l) m f w = taken f.0 (subst (λ l. Way i (call (parts l) (k l)) s false r' v) f.1 w)
+  more {s} {v} (Next.must l) m f w = wanted f.0 (subst (λ l. Way i (call (parts l) (k l)) s false r' v) f.1 w)
+  more Next.last m f w = absurd f
+
+  pub no_more : {s : Reader} {v : Option (Result i)} (n : Next) → Follows n r s (Ok None) → Way i p s far r' v → Way i (after i parts p k n) r far r' v
+  unfolding passed
+  no_more (Next.may l) f w = passed f w
+  no_more (Next.must l) f w = absurd f
+  no_more {v} Next.last f w = record { then = w.then; run = subst (λ us. Run i p us far (out v (left r') w.then)) (sym f.0) w.run; later = f.1.later then w.later }
+
+  pub none_where_due : (n : Next) (e : Bad) → Follows n r r' (Err e) → Way i (after i parts p k n) r far r' None
+  unfolding refused
+  none_where_due (Next.may l) e f = absurd f
+  none_where_due (Next.must l) e f = refused f
+  none_where_due Next.last e f = absurd f

@@ -1,11 +1,11 @@
 -- What `read` promises.
-use Rattle.std.specs.Prelude.{◌≡◌, ℕ, ◌+◌, ◌-◌, ◌<◌, ◌≤◌, ◌⊎◌, List, ◌++◌, map, length, drop, replicate, Some, None, Ok, Err, Option, Result}
+use Rattle.std.specs.Prelude.{◌≡◌, ℕ, ◌-◌, ◌<◌, ◌≤◌, ◌⊎◌, List, ◌++◌, map, length, drop, replicate, Some, None, Ok, Err, Result}
 use Rattle.syntax.specs.declared.Refused.{Refused}
 use Rattle.syntax.specs.Tree.{Tree}
 use Rattle.tables.specs.declared.Table.{Table}
 use Rattle.tables.specs.Items.{items, room}
 use Rattle.tokens.specs.declared.Token.{Token}
-use Rattle.tokens.specs.Lexeme.{Lexeme, lexeme}
+use Rattle.tokens.specs.Lexeme.{lexeme}
 use Rattle.tokens.specs.Pieces.{Cut}
 use Rattle.grammar.specs.Grammar.{Sort, Derives}
 use Rattle.grammar.specs.Steps.{first}
@@ -13,12 +13,15 @@ use Rattle.grammar.specs.Sentences as sentences
 use Rattle.grammar.specs.Places.{places, Distinct}
 use Rattle.reading.specs.declared.entry.Entry.{Entry}
 use Rattle.reading.specs.declared.entry.Entry.TheVariants as entry
-use Rattle.reading.specs.declared.source.Source.{Source}
+use Rattle.tokens.specs.declared.Refusal.{Refusal as NotCut}
+use Rattle.tokens.specs.declared.Refusal.TheVariants as not_cut
+use Rattle.reading.specs.declared.source.Reader.{Reader}
+use Rattle.reading.specs.declared.source.Bad.{Bad}
 use Rattle.reading.specs.declared.call.Draft.{Draft}
 use Rattle.reading.specs.declared.call.Refusal.{Refusal}
 use Rattle.reading.specs.declared.call.Refusal.TheVariants.{TooLong, SmallTable, NoToken, NoSentence}
 use Rattle.reading.specs.Entries.{Holds}
-use Rattle.reading.specs.Sources.{lexemes, from, size}
+use Rattle.reading.specs.Sources.{left, made, place_at, place_or}
 
 abbrev pub told : Refusal → Refused
 told TooLong = record { number = 1; place = None }
@@ -26,19 +29,15 @@ told SmallTable = record { number = 4; place = None }
 told (NoToken place) = record { number = 2; place = Some place }
 told (NoSentence place) = record { number = 3; place = Some place }
 
--- the place of the next token, or the text's length where there is none
-abbrev pub place_or : ℕ → Option Lexeme → ℕ
-place_or end None = end
-place_or end (Some x) = x.place
+-- the refusal of a text that is not cut into tokens
+abbrev pub cut_short : NotCut → Refusal
+cut_short not_cut.TooLong = TooLong
+cut_short (not_cut.NoToken place) = NoToken place
 
-abbrev pub bad_place : Source → ℕ → ℕ
-bad_place s n = place_or (length s.text.now) (first (from s n))
-
--- the tokens of a source are a sentence, whose one tree the table holds; or token number k is the first bad one
-abbrev pub Parsed : Source → Table Entry → Table Entry → Result ℕ ℕ → Type 0
-Parsed s t t' (Ok node) =
-    (tree : Tree) × (sentences.Accepted Sort.expr (lexemes s) tree × (Holds s.text.now (items t') node tree × ((room t' ≡ room t) × (length (items t') ≤ length (items t) + size s))))
-Parsed s t t' (Err k) = sentences.Refused Sort.expr (lexemes s) k × (room t' ≡ room t)
+-- the tokens left to r are a sentence, whose one tree r' holds; or token number k of them is the first bad one, and r' has come to it
+abbrev pub Parsed : Reader → Reader → Result ℕ Bad → Type 0
+Parsed r r' (Ok node) = (tree : Tree) × (sentences.Accepted Sort.expr (left r) tree × Holds r.text.now (made r') node tree)
+Parsed r r' (Err e) = (k : ℕ) × (sentences.Refused Sort.expr (left r) k × (place_at r' ≡ place_or (length r.text.now) (first (drop k (left r)))))
 
 -- the text is cut into these tokens, which derive the tree
 pub record Sentence (text : List ℕ) (tree : Tree) : Type 0 where
@@ -87,7 +86,7 @@ pub record Undrafted (text : List ℕ) (before after : List Entry) (w : Refusal)
   pub small : length text ≤ 2048 → length before < 2048 → (told w ≡ record { number = 4; place = None }) × (after ≡ before)
   pub bad : length text ≤ 2048 → 2048 ≤ length before → Denied text w × (after ≡ replicate (length before) entry.Empty)
 
--- what tokens and tree of a text come to in a table that is large enough
+-- what tokens and tree of a text come to in slots that are enough
 abbrev pub Built : List ℕ → Table Entry → Table Entry → Result ℕ Refusal → Type 0
 Built text t t' (Ok root) = (tree : Tree) × (Sentence text tree × (((u : Tree) → Sentence text u → u ≡ tree) × (Holds text (items t') root tree × ((room t' ≡ room t) × (length (items t') ≤ length text)))))
 Built text t t' (Err w) = Denied text w × (room t' ≡ room t)

@@ -1,5 +1,6 @@
 -- The grammar's levels and operations, as the code names them.
-use Rattle.std.specs.Prelude.{◌≡◌, ℕ, true, false, List, Option, MatchOption}
+use Rattle.std.specs.Prelude.{◌≡◌, ℕ, true, false, List, Some, None, Option, MatchOption}
+use Rattle.syntax.specs.declared.Unary.{Unary}
 use Rattle.tokens.specs.declared.Kind.{Kind}
 use Rattle.tokens.specs.Lexeme.{Symbol, symbol}
 use Rattle.grammar.specs.Grammar as grammar
@@ -12,8 +13,6 @@ use Rattle.reading.specs.declared.signs.Operation.{Operation}
 use Rattle.reading.specs.declared.signs.Operation.TheVariants as operation
 use Rattle.reading.specs.declared.signs.Infix.{Infix}
 use Rattle.reading.specs.declared.signs.Infix.TheVariants as between
-use Rattle.reading.specs.declared.signs.Prefix.{Prefix}
-use Rattle.reading.specs.declared.signs.Prefix.TheVariants as before
 
 abbrev pub left_of : Left → grammar.Left
 left_of left.Iff = grammar.Left.iff
@@ -30,15 +29,15 @@ abbrev pub operation_of : Operation → grammar.Operation
 operation_of (operation.Strict o) = grammar.Operation.strict o
 operation_of (operation.Deciding o) = grammar.Operation.deciding o
 
-abbrev pub infix_of : Infix → grammar.Infix
-infix_of (between.Chains l o) = grammar.Infix.chains (left_of l) (operation_of o)
-infix_of between.Implies = grammar.Infix.implies
-infix_of (between.Relates o) = grammar.Infix.relates o
-infix_of between.Nothing = grammar.Infix.nothing
+abbrev pub infix_of : Option Infix → grammar.Infix
+infix_of None = grammar.Infix.nothing
+infix_of (Some (between.Chains l o)) = grammar.Infix.chains (left_of l) (operation_of o)
+infix_of (Some between.Implies) = grammar.Infix.implies
+infix_of (Some (between.Relates o)) = grammar.Infix.relates o
 
-abbrev pub prefix_of : Prefix → grammar.Prefix
-prefix_of (before.Leads l o) = grammar.Prefix.leads (lead_of l) o
-prefix_of before.Nothing = grammar.Prefix.nothing
+abbrev pub prefix_of : Option (Lead × Unary) → grammar.Prefix
+prefix_of None = grammar.Prefix.nothing
+prefix_of (Some (l, o)) = grammar.Prefix.leads (lead_of l) o
 
 -- a token of this kind, whatever it spells, fails the test, or passes it and goes with the value as P says
 abbrev pub Tells : {A : Type 0} → Kind → Test → (Symbol → A → Type 0) → Option A → Type 0

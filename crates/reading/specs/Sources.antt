@@ -1,91 +1,105 @@
 -- What the reader's functions promise: each follows its program over the tokens.
-use Rattle.std.specs.Prelude.{◌≡◌, ℕ, ◌+◌, ◌<◌, ◌≤◌, Bool, true, false, List, [], ◌∷◌, map, length, drop, Some, None, Ok, Err, Option, Result}
-use Rattle.tables.specs.declared.Table.{Table}
+use Rattle.std.specs.Prelude.{◌≡◌, ℕ, ◌+◌, ◌≤◌, ◌⊎◌, Bool, true, List, ◌∷◌, map, length, Some, None, Ok, Err, Option, Result, MatchOption, MatchResult}
 use Rattle.tables.specs.Items.{items, room}
 use Rattle.tokens.specs.declared.Mark.TheVariants as sign
-use Rattle.tokens.specs.declared.Kind.{Kind}
-use Rattle.tokens.specs.declared.Token.{Token}
-use Rattle.tokens.specs.Lexeme.{Lexeme, symbol, lexeme}
+use Rattle.tokens.specs.Lexeme.{Lexeme, lexeme}
 use Rattle.syntax.specs.declared.Quantifier.{Quantifier}
 use Rattle.syntax.specs.Tree.{Tree, Trees, Pattern, Patterns}
+use Rattle.grammar.specs.Grammar as grammar
 use Rattle.grammar.specs.Steps as steps
-use Rattle.grammar.specs.Steps.{Test, Job, Prog, Run, out, first, Misses}
+use Rattle.grammar.specs.Steps.{Test, Job, Prog, Run, out, first, second, Hits, Misses}
 use Rattle.reading.specs.declared.entry.Span.{Span}
 use Rattle.reading.specs.declared.entry.Entry.{Entry}
-use Rattle.reading.specs.declared.source.Source.{Source}
-use Rattle.reading.specs.declared.source.Read.{Read}
-use Rattle.reading.specs.declared.source.List.{List as Listed}
+use Rattle.reading.specs.declared.source.Reader.{Reader}
+use Rattle.reading.specs.declared.source.Bad.{Bad}
 use Rattle.reading.specs.declared.source.Binding.{Binding}
 use Rattle.reading.specs.declared.source.Branches.{Branches}
 use Rattle.reading.specs.declared.source.Bracket.{Bracket}
 use Rattle.reading.specs.declared.source.Bracket.TheVariants as bracket
-use Rattle.grammar.specs.Grammar as grammar
 use Rattle.reading.specs.declared.source.Limit.{Limit}
 use Rattle.reading.specs.declared.source.Limit.TheVariants as limit
-use Rattle.reading.specs.declared.source.After.{After}
-use Rattle.reading.specs.declared.source.After.TheVariants as after
-use Rattle.reading.specs.Entries.{spelled, valued, Extends, Holds, HoldsPattern, HoldsPatterns, HoldsItems, HoldsArms, HoldsOptional}
+use Rattle.reading.specs.Entries.{spelled, valued, Extends, Stands, Holds, HoldsPattern, HoldsPatterns, HoldsItems, HoldsArms, HoldsOptional}
 
--- the grammar's limits
+-- the grammar's limits and brackets
 abbrev pub limit_of : Limit → steps.Limit
 limit_of limit.Any = steps.Limit.any
 limit_of (limit.Most n) = steps.Limit.most n
 limit_of limit.Several = steps.Limit.several
 
-abbrev pub after_of : After → steps.Next
-after_of (after.May l) = steps.Next.may (limit_of l)
-after_of (after.Must l) = steps.Next.must (limit_of l)
-after_of after.Last = steps.Next.last
+abbrev pub bracket_of : Bracket → grammar.Bracket
+bracket_of bracket.Brace = grammar.Bracket.brace
+bracket_of bracket.Square = grammar.Bracket.bracket
 
-abbrev pub lexemes : Source → List Lexeme
-lexemes s = map (lexeme s.text.now) s.tokens.now
+-- the tokens left, and how many; the entries made
+abbrev pub left : Reader → List Lexeme
+left r = map (lexeme r.text.now) r.rest.now
 
--- the tokens from number n on
-abbrev pub from : Source → ℕ → List Lexeme
-from s n = drop n (lexemes s)
+abbrev pub ahead : Reader → ℕ
+ahead r = length r.rest.now
 
-abbrev pub size : Source → ℕ
-size s = length s.tokens.now
+abbrev pub made : Reader → List Entry
+made r = items r.table
 
--- token number n passes the test
-pub record Sees (s : Source) (n : ℕ) (t : Test) : Type 0 where
+-- the place of a token, or the text's length
+abbrev pub place_or : ℕ → Option Lexeme → ℕ
+place_or end None = end
+place_or end (Some x) = x.place
+
+abbrev pub place_at : Reader → ℕ
+place_at r = place_or (length r.text.now) (first (left r))
+
+-- There is a slot for each token left, and for k more. It is no invariant of the reader: k, the entries that are still to be made of
+-- tokens already taken, is another in each function.
+abbrev pub Fits : ℕ → Reader → Type 0
+Fits k r = length (made r) + ahead r + k ≤ room r.table
+
+-- r' is r later: of the same text, with entries added
+pub record Later (r r' : Reader) : Type 0 where
+  pub text : r'.text.now ≡ r.text.now
+  pub entries : Extends (made r) (made r')
+
+-- n tokens were taken and nothing else done
+pub record Moves (n : ℕ) (r r' : Reader) : Type 0 where
+  pub later : Later r r'
+  pub few : length (made r') ≡ length (made r)
+  pub room : room r'.table ≡ room r.table
+  pub taken : ahead r ≡ n + ahead r'
+
+-- the next token passed the test and was taken
+pub record Takes (r r' : Reader) (t : Test) : Type 0 where
   pub token : Lexeme
-  pub here : from s n ≡ token ∷ from s (n + 1)
+  pub here : left r ≡ token ∷ left r'
   pub passes : t token.symbol ≡ true
-  pub inside : n < size s
+  pub moves : Moves 1 r r'
 
-abbrev pub Looks : Source → ℕ → Test → Bool → Type 0
-Looks s n t true = Sees s n t
-Looks s n t false = Misses t (first (from s n))
+-- it did not, or there is none
+pub record Leaves (r r' : Reader) (t : Test) : Type 0 where
+  pub misses : Misses t (first (left r))
+  pub here : left r ≡ left r'
+  pub moves : Moves 0 r r'
 
--- what stands at number n
-abbrev pub TokenAt : Source → ℕ → Option Token → Type 0
-TokenAt s n None = from s n ≡ []
-TokenAt s n (Some t) = (from s n ≡ lexeme s.text.now t ∷ from s (n + 1)) × (n < size s)
+-- two tokens passed two tests and were taken
+pub record Both (r r' : Reader) (t u : Test) : Type 0 where
+  pub token : Lexeme
+  pub behind : Lexeme
+  pub here : left r ≡ token ∷ behind ∷ left r'
+  pub passes : t token.symbol ≡ true
+  pub passes_too : u behind.symbol ≡ true
+  pub moves : Moves 2 r r'
 
--- the answer of a test at a token of this kind, whatever it spells
-abbrev pub Reads : Kind → Test → Bool → Type 0
-Reads k t r = (bytes : List ℕ) → r ≡ t (symbol k bytes)
+-- the next one did not, or it did alone
+pub record Alone (r r' : Reader) (t u : Test) : Type 0 where
+  pub misses : Misses t (first (left r)) ⊎ (Hits t (first (left r)) × Misses u (second (left r)))
+  pub here : left r ≡ left r'
+  pub moves : Moves 0 r r'
 
-abbrev pub place_of : Option Lexeme → ℕ
-place_of None = 0
-place_of (Some x) = x.place
+-- the next token passed the test and was taken, and the value goes with it as P says
+pub record Finds {A : Type 0} (r r' : Reader) (t : Test) (P : Lexeme → A → Type 0) (a : A) : Type 0 where
+  pub takes : Takes r r' t
+  pub tells : P takes.token a
 
-abbrev pub place_at : Source → ℕ → ℕ
-place_at s n = place_of (first (from s n))
-
-abbrev pub Wants : Source → ℕ → Test → Result ℕ ℕ → Type 0
-Wants s n t (Ok m) = Sees s n t × (m ≡ n + 1)
-Wants s n t (Err k) = Misses t (first (from s n)) × (k ≡ n)
-
--- token number n passes the test, and the value goes with it as P says
-pub record Finds {A : Type 0} (s : Source) (n : ℕ) (t : Test) (P : Lexeme → A → Type 0) (a : A) : Type 0 where
-  pub sees : Sees s n t
-  pub tells : P sees.token a
-
-abbrev pub Found : {A : Type 0} → Source → ℕ → Test → (Lexeme → A → Type 0) → Option A → Type 0
-Found s n t P (Some a) = Finds s n t P a
-Found s n t P None = Misses t (first (from s n))
+abbrev pub Found : {A : Type 0} → Reader → Reader → Test → (Lexeme → A → Type 0) → Option A → Type 0
+Found r r' t P o = MatchOption o (Leaves r r' t) (λ a. Finds r r' t P a)
 
 abbrev pub IsName : List ℕ → Lexeme → Span → Type 0
 IsName text x w = (w.place ≡ x.place) × (spelled text w ≡ steps.name_of x.symbol)
@@ -99,70 +113,73 @@ IsTruth x b = b ≡ steps.is sign.True x.symbol
 abbrev pub IsQuantifier : Lexeme → Quantifier → Type 0
 IsQuantifier x o = o ≡ steps.quantifier_of x.symbol
 
--- a token of any text fails the test, or passes it and goes with the value as P says
-abbrev pub Shows : {A : Type 0} → Token → Test → (List ℕ → Lexeme → A → Type 0) → Option A → Type 0
-Shows k t P None = (text : List ℕ) → t (lexeme text k).symbol ≡ false
-Shows k t P (Some a) = (text : List ℕ) → (t (lexeme text k).symbol ≡ true) × P text (lexeme text k) a
+-- behind a part: a comma was taken and so many parts come, or the list has ended, or there is no comma where one must be
+abbrev pub Follows : steps.Next → Reader → Reader → Result (Option Limit) Bad → Type 0
+Follows (steps.Next.may l) r r' (Ok None) = Leaves r r' (steps.is sign.Comma)
+Follows (steps.Next.may l) r r' (Ok (Some m)) = Takes r r' (steps.is sign.Comma) × (limit_of m ≡ l)
+Follows (steps.Next.may l) r r' (Err e) = ⊥
+Follows (steps.Next.must l) r r' (Ok None) = ⊥
+Follows (steps.Next.must l) r r' (Ok (Some m)) = Takes r r' (steps.is sign.Comma) × (limit_of m ≡ l)
+Follows (steps.Next.must l) r r' (Err e) = Leaves r r' (steps.is sign.Comma)
+Follows steps.Next.last r r' (Ok None) = (left r ≡ left r') × Moves 0 r r'
+Follows steps.Next.last r r' (Ok (Some m)) = ⊥
+Follows steps.Next.last r r' (Err e) = ⊥
 
--- there is a slot for each token from n on, and for k more
-pub record Fits (s : Source) (n k : ℕ) (t : Table Entry) : Type 0 where
-  pub inside : n ≤ size s
-  pub slots : length (items t) + size s + k ≤ room t + n
+abbrev pub Took : Reader → Reader → Result (Option Limit) Bad → Type 0
+Took r r' (Ok None) = Moves 0 r r'
+Took r r' (Ok (Some m)) = Moves 1 r r'
+Took r r' (Err e) = Moves 0 r r'
 
--- The program p, on the tokens from n on, comes to a value and leaves those from m on. The value stands in the table, to which at
--- most as many entries were added as tokens were read, and k more.
-pub record Got (i : Job) (p : Prog (steps.Result i)) (s : Source) (n : ℕ) (far : Bool) (k : ℕ) (t t' : Table Entry) (m : ℕ) (holds : steps.Result i → Type 0) : Type 0 where
+-- an entry was added
+pub record Puts (r r' : Reader) (e : Entry) (i : ℕ) : Type 0 where
+  pub here : left r ≡ left r'
+  pub stands : Stands (made r') i e
+  pub later : Later r r'
+  pub few : length (made r') ≡ length (made r) + 1
+  pub room : room r'.table ≡ room r.table
+  pub ahead : ahead r' ≡ ahead r
+
+-- at most as many entries were added as tokens were taken, and k more
+pub record Spends (k : ℕ) (r r' : Reader) : Type 0 where
+  pub few : length (made r') + ahead r' ≤ length (made r) + ahead r + k
+  pub room : room r'.table ≡ room r.table
+  pub on : ahead r' ≤ ahead r
+
+-- The program p, on the tokens that r has left, comes to the value v, or refuses where v is absent, and leaves those of r'.
+pub record Way (i : Job) (p : Prog (steps.Result i)) (r : Reader) (far : Bool) (r' : Reader) (v : Option (steps.Result i)) : Type 0 where
+  pub then : Bool
+  pub run : Run i p (left r) far (out v (left r') then)
+  pub later : Later r r'
+
+-- it comes to a value, which r' holds
+pub record Got (i : Job) (p : Prog (steps.Result i)) (r : Reader) (far : Bool) (r' : Reader) (holds : steps.Result i → Type 0) : Type 0 where
   pub value : steps.Result i
-  pub then : Bool
-  pub run : Run i p (from s n) far (out (Some value) (from s m) then)
+  pub way : Way i p r far r' (Some value)
   pub held : holds value
-  pub kept : Extends (items t) (items t')
-  pub few : length (items t') + n ≤ length (items t) + m + k
-  pub slots : room t' ≡ room t
-  pub on : n ≤ m
-  pub inside : m ≤ size s
 
--- it refuses at token number m
-pub record Lost (i : Job) (p : Prog (steps.Result i)) (s : Source) (n : ℕ) (far : Bool) (t t' : Table Entry) (m : ℕ) : Type 0 where
-  pub then : Bool
-  pub run : Run i p (from s n) far (out None (from s m) then)
-  pub slots : room t' ≡ room t
-  pub inside : m ≤ size s
-
-abbrev pub Came : {N : Type 0} (i : Job) → Prog (steps.Result i) → Source → ℕ → Bool → ℕ → Table Entry → Table Entry → (N → ℕ) → (List Entry → N → steps.Result i → Type 0) → Result N ℕ → Type 0
-Came i p s n far k t t' next holds (Ok r) = Got i p s n far k t t' (next r) (holds (items t') r)
-Came i p s n far k t t' next holds (Err m) = Lost i p s n far t t' m
+-- what a function that follows p comes to
+pub record Came {N : Type 0} (i : Job) (p : Prog (steps.Result i)) (r : Reader) (far : Bool) (r' : Reader) (holds : Reader → N → steps.Result i → Type 0) (result : Result N Bad) : Type 0 where
+  pub ends : MatchResult result (λ x. Got i p r far r' (holds r' x)) (λ _. Way i p r far r' None)
 
 -- trees and patterns that were read, alone and in lists
-abbrev pub TreeAt : Source → List Entry → Read → Tree → Type 0
-TreeAt s es r t = Holds s.text.now es r.node t
+abbrev pub TreeAt : Reader → ℕ → Tree → Type 0
+TreeAt r i t = Holds r.text.now (made r) i t
 
-abbrev pub TreesAt : Source → List Entry → Listed → Trees → Type 0
-TreesAt s es r ts = HoldsItems s.text.now es r.first ts
+abbrev pub TreesAt : Reader → ℕ → Trees → Type 0
+TreesAt r i ts = HoldsItems r.text.now (made r) (Some i) ts
 
-abbrev pub PatternAt : Source → List Entry → Read → Pattern → Type 0
-PatternAt s es r p = HoldsPattern s.text.now es r.node p
+abbrev pub PatternAt : Reader → ℕ → Pattern → Type 0
+PatternAt r i p = HoldsPattern r.text.now (made r) i p
 
-abbrev pub PatternsAt : Source → List Entry → Listed → Patterns → Type 0
-PatternsAt s es r ps = HoldsPatterns s.text.now es r.first ps
-
--- a part behind which a comma was read, and what follows it
-abbrev pub further_patterns : steps.Limit → Limit → Pattern → Prog Patterns
-further_patterns l rest p = steps.call (Job.patterns (limit_of rest)) λ ps. steps.ret (Patterns.more p ps)
-
-abbrev pub further_items : steps.Limit → Limit → Tree → Prog Trees
-further_items l rest t = steps.call (Job.items (limit_of rest)) λ ts. steps.ret (Trees.more t ts)
+abbrev pub PatternsAt : Reader → ℕ → Patterns → Type 0
+PatternsAt r i ps = HoldsPatterns r.text.now (made r) (Some i) ps
 
 -- a bind, and the alternatives of `cases` with `others`
-abbrev pub BindAt : Source → List Entry → Binding → steps.Bind → Type 0
-BindAt s es r b = (spelled s.text.now r.name ≡ b.name) × Holds s.text.now es r.set b.set
+abbrev pub BindAt : Reader → Binding → steps.Bind → Type 0
+BindAt r b c = (spelled r.text.now b.name ≡ c.name) × Holds r.text.now (made r) b.set c.set
 
-abbrev pub ArmsAt : Source → List Entry → Branches → steps.Arms → Type 0
-ArmsAt s es r a = HoldsArms s.text.now es (Some r.first) a.arms × HoldsOptional s.text.now es r.others a.others
-
-abbrev pub bracket_of : Bracket → grammar.Bracket
-bracket_of bracket.Brace = grammar.Bracket.brace
-bracket_of bracket.Square = grammar.Bracket.bracket
+abbrev pub ArmsAt : Reader → Branches → steps.Arms → Type 0
+ArmsAt r b a = HoldsArms r.text.now (made r) (Some b.first) a.arms × HoldsOptional r.text.now (made r) b.others a.others
 
 -- parts of the reading program that have a function of their own
 abbrev pub in_parentheses : Prog Tree

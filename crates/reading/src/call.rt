@@ -1,12 +1,11 @@
 // The call: a text becomes a draft.
 ghost use Rattle.std.specs.Prelude.{◌≡◌, ◌≤◌, [], length, MatchResult};
 ghost use Rattle.tables.specs.Items.{items, room};
-ghost use Rattle.reading.specs.Sources.{Fits};
-ghost use Rattle.reading.specs.Reading.{told as told_of, bad_place, Parsed, Built, Drafted, Undrafted};
+ghost use Rattle.reading.specs.Sources.{Fits, Spends};
+ghost use Rattle.reading.specs.Reading.{told as told_of, cut_short, Parsed, Built, Drafted, Undrafted};
 
 use crate::Entry;
-use crate::expressions::expr;
-use crate::source::Source;
+use crate::source::{Bad, Reader};
 use syntax::Refused;
 use tables::Table;
 use tokens::{Kind, Token, tokenise};
@@ -21,7 +20,7 @@ const NO_TOKEN: Token = Token {
 };
 
 /// Why a text is not read.
-#[derive(Clone, Copy, Debug)]
+#[derive(Clone, Copy, Debug, PartialEq, Eq)]
 pub enum Refusal {
     /// It has over 2,048 bytes.
     TooLong,
@@ -33,12 +32,11 @@ pub enum Refusal {
     NoSentence(usize),
 }
 
-impl Refusal {
-    /// Its number and place.
-    pub fn told(self) -> Refused
-        ensures { result ≡ told_of self }
-    {
-        match self {
+impl From<Refusal> for Refused {
+    ghost from_gives = { λ e r. r ≡ told_of e };
+
+    fn from(refusal: Refusal) -> Refused {
+        match refusal {
             Refusal::TooLong => Refused {
                 number: 1,
                 place: None,
@@ -55,6 +53,17 @@ impl Refusal {
                 number: 3,
                 place: Some(place),
             },
+        }
+    }
+}
+
+impl From<tokens::Refusal> for Refusal {
+    ghost from_gives = { λ e r. r ≡ cut_short e };
+
+    fn from(refusal: tokens::Refusal) -> Refusal {
+        match refusal {
+            tokens::Refusal::TooLong => Refusal::TooLong,
+            tokens::Refusal::NoToken(place) => Refusal::NoToken(place),
         }
     }
 }
@@ -101,49 +110,37 @@ impl<'t> Draft<'t> {
     }
 }
 
-// The place of token number `at`, or the text's length behind the last.
-fn place_of(src: &Source<'_>, at: usize) -> usize
-    ensures { result ≡ bad_place src.now at }
-{
-    if at < src.tokens.len() {
-        src.place(at)
-    } else {
-        src.text.len()
-    }
-}
-
 // Reads the tokens as one expression. A refusal is at the first bad token, or at the end.
-fn parse(src: &Source<'_>, table: &mut Table<'_, Entry>) -> Result<usize, usize>
-    requires { Fits src.now 0 0 table.old }
-    ensures { Parsed src.now table.old table.new result }
+fn parse(reader: &mut Reader<'_, '_>) -> Result<usize, Bad>
+    requires { Fits 0 reader.old }
+    ensures parsed { Parsed reader.old reader.new result }
+    ensures spends { Spends 0 reader.old reader.new }
 {
-    let whole = expr(src, 0, false, table)?;
-    if whole.next < src.tokens.len() {
-        return Err(whole.next);
+    let root = reader.expr(false)?;
+    if !reader.rest.is_empty() {
+        return Err(Bad);
     }
-    Ok(whole.node)
+    Ok(root)
 }
 
-// Tokens and tree of a text, in a table that is large enough.
-fn build(text: &[u8], table: &mut Table<'_, Entry>) -> Result<usize, Refusal>
-    requires { (length text.now ≤ 2048) × ((2048 ≤ room table.old) × (items table.old ≡ [])) }
-    ensures { Built text.now table.old table.new result }
+// Tokens and tree of a text, in slots that are enough.
+fn build<'t>(text: &[u8], table: Table<'t, Entry>) -> (Result<usize, Refusal>, Table<'t, Entry>)
+    requires { (length text.now ≤ 2048) × ((2048 ≤ room table) × (items table ≡ [])) }
+    ensures { Built text.now table.entry result.1 result.0 }
 {
     let mut slots = [NO_TOKEN; TEXT_MAX];
     let mut tokens = Table::make(&mut slots);
-    match tokenise(text, &mut tokens) {
-        Ok(()) => {}
-        Err(tokens::Refusal::TooLong) => return Err(Refusal::TooLong),
-        Err(tokens::Refusal::NoToken(place)) => return Err(Refusal::NoToken(place)),
+    if let Err(refusal) = tokenise(text, &mut tokens) {
+        return (Err(refusal.into()), table);
     }
-    let src = Source {
+    let mut reader = Reader {
         text,
-        tokens: tokens.items(),
+        rest: tokens.items(),
+        table,
     };
-    match parse(&src, table) {
-        Ok(root) => Ok(root),
-        Err(at) => Err(Refusal::NoSentence(place_of(&src, at))),
-    }
+    let root = parse(&mut reader);
+    let place = reader.place();
+    (root.map_err(|_| Refusal::NoSentence(place)), reader.table)
 }
 
 /// Reads a text into a draft, whose tree stands in the slots.
@@ -161,8 +158,8 @@ pub fn read<'t>(
     if slots.len() < TEXT_MAX {
         return Err((Refusal::SmallTable, slots));
     }
-    let mut table = Table::make(slots);
-    match build(text, &mut table) {
+    let (root, mut table) = build(text, Table::make(slots));
+    match root {
         Ok(root) => {
             table.blank(Entry::Empty);
             Ok(Draft {

@@ -2,14 +2,15 @@
 use syntax::{Binary, Collection, Connective, Quantifier, Unary};
 
 /// A part of the text: a name or a numeral.
-#[derive(Clone, Copy)]
+#[derive(Clone, Copy, Debug, Default, PartialEq, Eq)]
 pub struct Span {
     pub place: usize,
     pub len: usize,
 }
 
 /// A node of the tree. A part is named by the index of its entry; members, parts and alternatives are lists.
-#[derive(Clone, Copy)]
+// Indices and not boxes: no heap is used on the way of a rule, and the entries stand in slots that are lent.
+#[derive(Clone, Copy, Debug, PartialEq, Eq)]
 pub enum Entry {
     Empty,
     Numeral(Span),

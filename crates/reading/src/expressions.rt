@@ -1,390 +1,602 @@
-// Expressions. Each function reads what its comment says, from the token number `at` on. The flag `inside` says that an `in` which
-// ends what a `let` binds may follow.
-ghost use Rattle.std.specs.Prelude.{◌≡◌, ◌+◌, Bool, false};
-ghost use Rattle.tables.specs.Items.{items as items_of};
-ghost use Rattle.tokens.specs.declared.Mark.TheVariants.{Comma};
+// Expressions. Each function reads what its comment says. The flag `inside` says that an `in` which ends what a `let` binds may follow.
+ghost use Rattle.std.specs.Prelude.{◌≡◌, Bool, false};
 ghost use Rattle.syntax.specs.Tree.{Tree};
 ghost use Rattle.grammar.specs.Grammar.{Sort, under as under_of, under_lead};
-ghost use Rattle.grammar.specs.Steps.{Job, body as program, is as is_mark, let_tail, such_that, cases_tail, quantifier_tail, after_comma, after_bar, tuple_tail, right_side};
-ghost use Rattle.grammar.specs.Steps.{bound as bound_of, collected as collected_of, members as members_of, Limit as StepLimit};
+ghost use Rattle.grammar.specs.Steps.{Job, body as program, let_tail, such_that, cases_tail, quantifier_tail, after_comma, after_bar, tuple_tail, right_side};
+ghost use Rattle.grammar.specs.Steps.{bound as bound_of, collected as collected_of, members as members_of};
 ghost use Rattle.reading.specs.Entries.{spelled, joined};
 ghost use Rattle.reading.specs.Signs.{left_of, lead_of, operation_of};
-ghost use Rattle.reading.specs.Sources.{limit_of, bracket_of, Sees, Fits, Came, TreeAt, TreesAt, BindAt, ArmsAt, in_parentheses, to_range_end, further_items};
+ghost use Rattle.reading.specs.Sources.{limit_of, bracket_of, Fits, Spends, Came, TreeAt, TreesAt, BindAt, ArmsAt, in_parentheses, to_range_end};
 
-use crate::patterns::pattern;
 use crate::signs::{Lead, Left, Operation};
-use crate::source::{
-    After, Binding, Bracket, Branches, Limit, List, Read, Source, closing, collected, following,
-    last, put,
-};
+use crate::source::{Bad, Binding, Bracket, Branches, Limit, Reader};
 use crate::{Entry, Span};
 use syntax::{Binary, Collection, Connective, Quantifier};
-use tables::Table;
 use tokens::Mark;
 
-// E = let .. | if .. | cases .. | forall .. | exists .. | C
-#[cycle(expression)]
-pub(crate) fn expr(
-    src: &Source<'_>,
-    at: usize,
-    inside: bool,
-    table: &mut Table<'_, Entry>,
-) -> Result<Read, usize>
-    requires { Fits src.now at 0 table.old }
-    ensures { Came (Job.parse Sort.expr inside) (program (Job.parse Sort.expr inside)) src.now at false 0 table.old table.new (λ x. x.next) (TreeAt src.now) result }
-{
-    let place = src.place(at);
-    if src.is(at, Mark::Let) {
-        return lets(src, place, at + 1, inside, table);
+impl Reader<'_, '_> {
+    // E = let .. | if .. | cases .. | forall .. | exists .. | C
+    #[cycle(expression)]
+    pub(crate) fn expr(&mut self, inside: bool) -> Result<usize, Bad>
+        requires { Fits 0 self.old }
+        ensures way { Came (Job.parse Sort.expr inside) (program (Job.parse Sort.expr inside)) self.old false self.new TreeAt result }
+        ensures spends { Spends 0 self.old self.new }
+    {
+        let place = self.place();
+        if self.accept(Mark::Let) {
+            return self.lets(place, inside);
+        }
+        if self.accept(Mark::If) {
+            return self.choice(place, inside);
+        }
+        if self.accept(Mark::Cases) {
+            return self.cases(place);
+        }
+        if let Some(op) = self.quantifier() {
+            return self.quant(place, op, inside);
+        }
+        self.chain(Left::Iff, inside)
     }
-    if src.is(at, Mark::If) {
-        return choice(src, place, at + 1, inside, table);
-    }
-    if src.is(at, Mark::Cases) {
-        return cases(src, place, at + 1, table);
-    }
-    if let Some(op) = src.quantifier(at) {
-        return quant(src, place, op, at + 1, inside, table);
-    }
-    chain(src, Left::Iff, at, inside, table)
-}
 
-// let name = E in E | let B be st E in E, behind `let`
-#[cycle(expression)]
-fn lets(
-    src: &Source<'_>,
-    place: usize,
-    at: usize,
-    inside: bool,
-    table: &mut Table<'_, Entry>,
-) -> Result<Read, usize>
-    requires { Fits src.now at 1 table.old }
-    ensures { Came (Job.parse Sort.expr inside) (let_tail inside place) src.now at false 1 table.old table.new (λ x. x.next) (TreeAt src.now) result }
-{
-    let Some(name) = src.name(at) else {
-        return Err(at);
-    };
-    if src.is(at + 1, Mark::Equal) {
-        return bound(src, place, name, at + 2, inside, table);
+    // let name = E in E | let B be st E in E, behind `let`
+    #[cycle(expression)]
+    fn lets(&mut self, place: usize, inside: bool) -> Result<usize, Bad>
+        requires { Fits 1 self.old }
+        ensures way { Came (Job.parse Sort.expr inside) (let_tail inside place) self.old false self.new TreeAt result }
+        ensures spends { Spends 1 self.old self.new }
+    {
+        let Some(name) = self.name() else {
+            return Err(Bad);
+        };
+        if self.accept(Mark::Equal) {
+            return self.bound(place, name, inside);
+        }
+        self.such(place, name, inside)
     }
-    such(src, place, name, at + 1, inside, table)
-}
 
-// E in E, behind `let name =`
-#[cycle(expression)]
-fn bound(
-    src: &Source<'_>,
-    place: usize,
-    name: Span,
-    at: usize,
-    inside: bool,
-    table: &mut Table<'_, Entry>,
-) -> Result<Read, usize>
-    requires { Fits src.now at 1 table.old }
-    ensures { Came (Job.parse Sort.expr inside) (bound_of inside place (spelled src.now.text.now name)) src.now at false 1 table.old table.new (λ x. x.next) (TreeAt src.now) result }
-{
-    let value = expr(src, at, true, table)?;
-    let at = src.want(value.next, Mark::In)?;
-    let body = expr(src, at, inside, table)?;
-    let node = put(
-        table,
-        Entry::Let {
+    // E in E, behind `let name =`
+    #[cycle(expression)]
+    fn bound(&mut self, place: usize, name: Span, inside: bool) -> Result<usize, Bad>
+        requires { Fits 1 self.old }
+        ensures way { Came (Job.parse Sort.expr inside) (bound_of inside place (spelled self.old.text.now name)) self.old false self.new TreeAt result }
+        ensures spends { Spends 1 self.old self.new }
+    {
+        let value = self.expr(true)?;
+        self.want(Mark::In)?;
+        let body = self.expr(inside)?;
+        Ok(self.put(Entry::Let {
             place,
             name,
-            value: value.node,
-            body: body.node,
-        },
-    );
-    Ok(Read {
-        node,
-        next: body.next,
-    })
-}
+            value,
+            body,
+        }))
+    }
 
-// in set C be st E in E, behind `let name`
-#[cycle(expression)]
-fn such(
-    src: &Source<'_>,
-    place: usize,
-    name: Span,
-    at: usize,
-    inside: bool,
-    table: &mut Table<'_, Entry>,
-) -> Result<Read, usize>
-    requires { Fits src.now at 1 table.old }
-    ensures { Came (Job.parse Sort.expr inside) (such_that inside place (spelled src.now.text.now name)) src.now at false 1 table.old table.new (λ x. x.next) (TreeAt src.now) result }
-{
-    let at = src.want(at, Mark::In)?;
-    let at = src.want(at, Mark::Set)?;
-    let set = chain(src, Left::Iff, at, false, table)?;
-    let at = src.want(set.next, Mark::Be)?;
-    let at = src.want(at, Mark::St)?;
-    let condition = expr(src, at, true, table)?;
-    let at = src.want(condition.next, Mark::In)?;
-    let body = expr(src, at, inside, table)?;
-    let node = put(
-        table,
-        Entry::LetBe {
+    // in set C be st E in E, behind `let name`
+    #[cycle(expression)]
+    fn such(&mut self, place: usize, name: Span, inside: bool) -> Result<usize, Bad>
+        requires { Fits 1 self.old }
+        ensures way { Came (Job.parse Sort.expr inside) (such_that inside place (spelled self.old.text.now name)) self.old false self.new TreeAt result }
+        ensures spends { Spends 1 self.old self.new }
+    {
+        self.want(Mark::In)?;
+        self.want(Mark::Set)?;
+        let set = self.chain(Left::Iff, false)?;
+        self.want(Mark::Be)?;
+        self.want(Mark::St)?;
+        let condition = self.expr(true)?;
+        self.want(Mark::In)?;
+        let body = self.expr(inside)?;
+        Ok(self.put(Entry::LetBe {
             place,
             name,
-            set: set.node,
-            condition: condition.node,
-            body: body.node,
-        },
-    );
-    Ok(Read {
-        node,
-        next: body.next,
-    })
-}
+            set,
+            condition,
+            body,
+        }))
+    }
 
-// E then E (elseif ..| else E), behind `if` or `elseif`
-#[cycle(expression)]
-fn choice(
-    src: &Source<'_>,
-    place: usize,
-    at: usize,
-    inside: bool,
-    table: &mut Table<'_, Entry>,
-) -> Result<Read, usize>
-    requires { Fits src.now at 1 table.old }
-    ensures { Came (Job.parse (Sort.choice place) inside) (program (Job.parse (Sort.choice place) inside)) src.now at false 1 table.old table.new (λ x. x.next) (TreeAt src.now) result }
-{
-    let test = expr(src, at, false, table)?;
-    let at = src.want(test.next, Mark::Then)?;
-    let then = expr(src, at, false, table)?;
-    if src.is(then.next, Mark::Elseif) {
-        let otherwise = choice(src, src.place(then.next), then.next + 1, inside, table)?;
-        let node = put(
-            table,
-            Entry::If {
+    // E then E (elseif ..| else E), behind `if` or `elseif`
+    #[cycle(expression)]
+    fn choice(&mut self, place: usize, inside: bool) -> Result<usize, Bad>
+        requires { Fits 1 self.old }
+        ensures way { Came (Job.parse (Sort.choice place) inside) (program (Job.parse (Sort.choice place) inside)) self.old false self.new TreeAt result }
+        ensures spends { Spends 1 self.old self.new }
+    {
+        let test = self.expr(false)?;
+        self.want(Mark::Then)?;
+        let then = self.expr(false)?;
+        let next = self.place();
+        if self.accept(Mark::Elseif) {
+            let otherwise = self.choice(next, inside)?;
+            return Ok(self.put(Entry::If {
                 place,
-                test: test.node,
-                then: then.node,
-                otherwise: otherwise.node,
-            },
-        );
-        return Ok(Read {
-            node,
-            next: otherwise.next,
-        });
+                test,
+                then,
+                otherwise,
+            }));
+        }
+        self.want(Mark::Else)?;
+        let otherwise = self.expr(inside)?;
+        Ok(self.put(Entry::If {
+            place,
+            test,
+            then,
+            otherwise,
+        }))
     }
-    let at = src.want(then.next, Mark::Else)?;
-    let otherwise = expr(src, at, inside, table)?;
-    let node = put(
-        table,
-        Entry::If {
-            place,
-            test: test.node,
-            then: then.node,
-            otherwise: otherwise.node,
-        },
-    );
-    Ok(Read {
-        node,
-        next: otherwise.next,
-    })
-}
 
-// E : A (, A)* (, others -> E)? end, behind `cases`
-#[cycle(expression)]
-fn cases(
-    src: &Source<'_>,
-    place: usize,
-    at: usize,
-    table: &mut Table<'_, Entry>,
-) -> Result<Read, usize>
-    requires { Fits src.now at 1 table.old }
-    ensures { (f : Bool) → Came (Job.parse Sort.expr f) (cases_tail place) src.now at false 1 table.old table.new (λ x. x.next) (TreeAt src.now) result }
-{
-    let subject = expr(src, at, false, table)?;
-    let at = src.want(subject.next, Mark::Colon)?;
-    let arms = arms(src, at, table)?;
-    let next = src.want(arms.next, Mark::End)?;
-    let node = put(
-        table,
-        Entry::Cases {
+    // E : A (, A)* (, others -> E)? end, behind `cases`
+    #[cycle(expression)]
+    fn cases(&mut self, place: usize) -> Result<usize, Bad>
+        requires { Fits 1 self.old }
+        ensures way { (f : Bool) → Came (Job.parse Sort.expr f) (cases_tail place) self.old false self.new TreeAt result }
+        ensures spends { Spends 1 self.old self.new }
+    {
+        let subject = self.expr(false)?;
+        self.want(Mark::Colon)?;
+        let arms = self.arms()?;
+        self.want(Mark::End)?;
+        Ok(self.put(Entry::Cases {
             place,
-            subject: subject.node,
+            subject,
             first: arms.first,
             others: arms.others,
-        },
-    );
-    Ok(Read { node, next })
-}
+        }))
+    }
 
-// A (, A)* (, others -> E)?, where A = P -> E
-#[cycle(expression)]
-fn arms(src: &Source<'_>, at: usize, table: &mut Table<'_, Entry>) -> Result<Branches, usize>
-    requires { Fits src.now at 0 table.old }
-    ensures { Came (Job.arms) (program Job.arms) src.now at false 0 table.old table.new (λ x. x.next) (ArmsAt src.now) result }
-{
-    let pattern = pattern(src, at, table)?;
-    let at = src.want(pattern.next, Mark::Arrow)?;
-    let right = expr(src, at, false, table)?;
-    if !src.is(right.next, Mark::Comma) {
-        let first = put(
-            table,
-            Entry::Alternative {
-                pattern: pattern.node,
-                right: right.node,
+    // A (, A)* (, others -> E)?, where A = P -> E
+    #[cycle(expression)]
+    fn arms(&mut self) -> Result<Branches, Bad>
+        requires { Fits 0 self.old }
+        ensures way { Came Job.arms (program Job.arms) self.old false self.new ArmsAt result }
+        ensures spends { Spends 0 self.old self.new }
+    {
+        let pattern = self.pattern()?;
+        self.want(Mark::Arrow)?;
+        let right = self.expr(false)?;
+        if !self.accept(Mark::Comma) {
+            let first = self.put(Entry::Alternative {
+                pattern,
+                right,
                 next: None,
-            },
-        );
-        return Ok(Branches {
-            first,
-            others: None,
-            next: right.next,
-        });
-    }
-    if !src.is(right.next + 1, Mark::Others) {
-        let more = arms(src, right.next + 1, table)?;
-        let first = put(
-            table,
-            Entry::Alternative {
-                pattern: pattern.node,
-                right: right.node,
+            });
+            return Ok(Branches {
+                first,
+                others: None,
+            });
+        }
+        if !self.accept(Mark::Others) {
+            let more = self.arms()?;
+            let first = self.put(Entry::Alternative {
+                pattern,
+                right,
                 next: Some(more.first),
-            },
-        );
-        return Ok(Branches {
-            first,
-            others: more.others,
-            next: more.next,
-        });
-    }
-    let at = src.want(right.next + 2, Mark::Arrow)?;
-    let others = expr(src, at, false, table)?;
-    let first = put(
-        table,
-        Entry::Alternative {
-            pattern: pattern.node,
-            right: right.node,
+            });
+            return Ok(Branches {
+                first,
+                others: more.others,
+            });
+        }
+        self.want(Mark::Arrow)?;
+        let others = self.expr(false)?;
+        let first = self.put(Entry::Alternative {
+            pattern,
+            right,
             next: None,
-        },
-    );
-    Ok(Branches {
-        first,
-        others: Some(others.node),
-        next: others.next,
-    })
-}
+        });
+        Ok(Branches {
+            first,
+            others: Some(others),
+        })
+    }
 
-// B & E, behind `forall` or `exists`
-#[cycle(expression)]
-fn quant(
-    src: &Source<'_>,
-    place: usize,
-    op: Quantifier,
-    at: usize,
-    inside: bool,
-    table: &mut Table<'_, Entry>,
-) -> Result<Read, usize>
-    requires { Fits src.now at 1 table.old }
-    ensures { Came (Job.parse Sort.expr inside) (quantifier_tail inside place op) src.now at false 1 table.old table.new (λ x. x.next) (TreeAt src.now) result }
-{
-    let bind = bind(src, at, table)?;
-    let at = src.want(bind.next, Mark::Ampersand)?;
-    let body = expr(src, at, inside, table)?;
-    let node = put(
-        table,
-        Entry::Quantifier {
+    // B & E, behind `forall` or `exists`
+    #[cycle(expression)]
+    fn quant(&mut self, place: usize, op: Quantifier, inside: bool) -> Result<usize, Bad>
+        requires { Fits 1 self.old }
+        ensures way { Came (Job.parse Sort.expr inside) (quantifier_tail inside place op) self.old false self.new TreeAt result }
+        ensures spends { Spends 1 self.old self.new }
+    {
+        let bind = self.bind()?;
+        self.want(Mark::Ampersand)?;
+        let body = self.expr(inside)?;
+        Ok(self.put(Entry::Quantifier {
             place,
             op,
             name: bind.name,
             set: bind.set,
-            body: body.node,
-        },
-    );
-    Ok(Read {
-        node,
-        next: body.next,
-    })
-}
-
-// B = name in set C
-#[cycle(expression)]
-fn bind(src: &Source<'_>, at: usize, table: &mut Table<'_, Entry>) -> Result<Binding, usize>
-    requires { Fits src.now at 0 table.old }
-    ensures { Came (Job.bind) (program Job.bind) src.now at false 0 table.old table.new (λ x. x.next) (BindAt src.now) result }
-{
-    let Some(name) = src.name(at) else {
-        return Err(at);
-    };
-    let at = src.want(at + 1, Mark::In)?;
-    let at = src.want(at, Mark::Set)?;
-    let set = chain(src, Left::Iff, at, false, table)?;
-    Ok(Binding {
-        name,
-        set: set.node,
-        next: set.next,
-    })
-}
-
-// A level whose signs group to the left.
-#[cycle(expression)]
-fn chain(
-    src: &Source<'_>,
-    level: Left,
-    at: usize,
-    inside: bool,
-    table: &mut Table<'_, Entry>,
-) -> Result<Read, usize>
-    requires { Fits src.now at 0 table.old }
-    ensures { Came (Job.parse (Sort.left (left_of level)) inside) (program (Job.parse (Sort.left (left_of level)) inside)) src.now at false 0 table.old table.new (λ x. x.next) (TreeAt src.now) result }
-{
-    let first = under(src, level, at, inside, table)?;
-    more(src, level, first, inside, table)
-}
-
-// The level below.
-#[cycle(expression)]
-fn under(
-    src: &Source<'_>,
-    level: Left,
-    at: usize,
-    inside: bool,
-    table: &mut Table<'_, Entry>,
-) -> Result<Read, usize>
-    requires { Fits src.now at 0 table.old }
-    ensures { Came (Job.parse (under_of (left_of level)) inside) (program (Job.parse (under_of (left_of level)) inside)) src.now at false 0 table.old table.new (λ x. x.next) (TreeAt src.now) result }
-{
-    match level {
-        Left::Iff => imply(src, at, inside, table),
-        Left::Or => chain(src, Left::And, at, inside, table),
-        Left::And => lead(src, Lead::Not, at, inside, table),
-        Left::Sum => chain(src, Left::Product, at, inside, table),
-        Left::Product => lead(src, Lead::Minus, at, inside, table),
+            body,
+        }))
     }
-}
 
-// What follows an operand of such a level.
-#[cycle(expression)]
-fn more(
-    src: &Source<'_>,
-    level: Left,
-    left: Read,
-    inside: bool,
-    table: &mut Table<'_, Entry>,
-) -> Result<Read, usize>
-    requires { Fits src.now left.next 0 table.old }
-    ensures { (a : Tree) (far : Bool) → TreeAt src.now (items_of table.old) left a → Came (Job.more (left_of level) inside a) (program (Job.more (left_of level) inside a)) src.now left.next far 0 table.old table.new (λ x. x.next) (TreeAt src.now) result }
-{
-    let Some(op) = src.chained(left.next, level) else {
-        return Ok(left);
-    };
-    let right = under(src, level, left.next + 1, inside, table)?;
-    let node = put(table, join(op, src.place(left.next), left.node, right.node));
-    more(
-        src,
-        level,
-        Read {
+    // B = name in set C
+    #[cycle(expression)]
+    fn bind(&mut self) -> Result<Binding, Bad>
+        requires { Fits 0 self.old }
+        ensures way { Came Job.bind (program Job.bind) self.old false self.new BindAt result }
+        ensures spends { Spends 0 self.old self.new }
+    {
+        let Some(name) = self.name() else {
+            return Err(Bad);
+        };
+        self.want(Mark::In)?;
+        self.want(Mark::Set)?;
+        let set = self.chain(Left::Iff, false)?;
+        Ok(Binding { name, set })
+    }
+
+    // A level whose signs group to the left.
+    #[cycle(expression)]
+    fn chain(&mut self, level: Left, inside: bool) -> Result<usize, Bad>
+        requires { Fits 0 self.old }
+        ensures way { Came (Job.parse (Sort.left (left_of level)) inside) (program (Job.parse (Sort.left (left_of level)) inside)) self.old false self.new TreeAt result }
+        ensures spends { Spends 0 self.old self.new }
+    {
+        let first = self.under(level, inside)?;
+        self.more(level, first, inside)
+    }
+
+    // The level below.
+    #[cycle(expression)]
+    fn under(&mut self, level: Left, inside: bool) -> Result<usize, Bad>
+        requires { Fits 0 self.old }
+        ensures way { Came (Job.parse (under_of (left_of level)) inside) (program (Job.parse (under_of (left_of level)) inside)) self.old false self.new TreeAt result }
+        ensures spends { Spends 0 self.old self.new }
+    {
+        match level {
+            Left::Iff => self.imply(inside),
+            Left::Or => self.chain(Left::And, inside),
+            Left::And => self.lead(Lead::Not, inside),
+            Left::Sum => self.chain(Left::Product, inside),
+            Left::Product => self.lead(Lead::Minus, inside),
+        }
+    }
+
+    // What follows an operand of such a level.
+    #[cycle(expression)]
+    fn more(&mut self, level: Left, left: usize, inside: bool) -> Result<usize, Bad>
+        requires { Fits 0 self.old }
+        ensures way { (a : Tree) (far : Bool) → TreeAt self.old left a → Came (Job.more (left_of level) inside a) (program (Job.more (left_of level) inside a)) self.old far self.new TreeAt result }
+        ensures spends { Spends 0 self.old self.new }
+    {
+        let place = self.place();
+        let Some(op) = self.chained(level) else {
+            return Ok(left);
+        };
+        let right = self.under(level, inside)?;
+        let node = self.put(join(op, place, left, right));
+        self.more(level, node, inside)
+    }
+
+    // or-level (=> implication)?
+    #[cycle(expression)]
+    fn imply(&mut self, inside: bool) -> Result<usize, Bad>
+        requires { Fits 0 self.old }
+        ensures way { Came (Job.parse Sort.implication inside) (program (Job.parse Sort.implication inside)) self.old false self.new TreeAt result }
+        ensures spends { Spends 0 self.old self.new }
+    {
+        let left = self.chain(Left::Or, inside)?;
+        let place = self.place();
+        if !self.accept(Mark::Implies) {
+            return Ok(left);
+        }
+        let right = self.imply(inside)?;
+        Ok(self.put(Entry::Connective {
+            place,
+            op: Connective::Implies,
+            left,
+            right,
+        }))
+    }
+
+    // Prefix signs.
+    #[cycle(expression)]
+    fn lead(&mut self, level: Lead, inside: bool) -> Result<usize, Bad>
+        requires { Fits 0 self.old }
+        ensures way { Came (Job.parse (Sort.lead (lead_of level)) inside) (program (Job.parse (Sort.lead (lead_of level)) inside)) self.old false self.new TreeAt result }
+        ensures spends { Spends 0 self.old self.new }
+    {
+        let place = self.place();
+        let Some(op) = self.leading(level) else {
+            return self.bare(level, inside);
+        };
+        let operand = self.lead(level, inside)?;
+        Ok(self.put(Entry::Unary { place, op, operand }))
+    }
+
+    // The level below.
+    #[cycle(expression)]
+    fn bare(&mut self, level: Lead, inside: bool) -> Result<usize, Bad>
+        requires { Fits 0 self.old }
+        ensures way { Came (Job.parse (under_lead (lead_of level)) inside) (program (Job.parse (under_lead (lead_of level)) inside)) self.old false self.new TreeAt result }
+        ensures spends { Spends 0 self.old self.new }
+    {
+        match level {
+            Lead::Not => self.relation(inside),
+            Lead::Minus => self.postfix(),
+        }
+    }
+
+    // One relation at most.
+    #[cycle(expression)]
+    fn relation(&mut self, inside: bool) -> Result<usize, Bad>
+        requires { Fits 0 self.old }
+        ensures way { Came (Job.parse Sort.relation inside) (program (Job.parse Sort.relation inside)) self.old false self.new TreeAt result }
+        ensures spends { Spends 0 self.old self.new }
+    {
+        let left = self.chain(Left::Sum, false)?;
+        let place = self.place();
+        if let Some(op) = self.relating() {
+            return self.side(place, op, left);
+        }
+        if self.accept(Mark::Not) {
+            self.want(Mark::In)?;
+            self.want(Mark::Set)?;
+            return self.side(place, Binary::NotInSet, left);
+        }
+        if inside {
+            if !self.accept_both(Mark::In, Mark::Set) {
+                return Ok(left);
+            }
+            return self.side(place, Binary::InSet, left);
+        }
+        if !self.accept(Mark::In) {
+            return Ok(left);
+        }
+        self.want(Mark::Set)?;
+        self.side(place, Binary::InSet, left)
+    }
+
+    // The right side of a relation.
+    #[cycle(expression)]
+    fn side(&mut self, place: usize, op: Binary, left: usize) -> Result<usize, Bad>
+        requires { Fits 1 self.old }
+        ensures way { (f : Bool) (a : Tree) → TreeAt self.old left a → Came (Job.parse Sort.relation f) (right_side place op a) self.old false self.new TreeAt result }
+        ensures spends { Spends 1 self.old self.new }
+    {
+        let right = self.chain(Left::Sum, false)?;
+        Ok(self.put(Entry::Binary {
+            place,
+            op,
+            left,
+            right,
+        }))
+    }
+
+    // An atom, applied and selected from.
+    #[cycle(expression)]
+    fn postfix(&mut self) -> Result<usize, Bad>
+        requires { Fits 0 self.old }
+        ensures way { (f : Bool) → Came (Job.parse Sort.postfix f) (program (Job.parse Sort.postfix f)) self.old false self.new TreeAt result }
+        ensures spends { Spends 0 self.old self.new }
+    {
+        let first = self.atom()?;
+        self.applied(first)
+    }
+
+    // ( E ) and .# numeral, any number of times
+    #[cycle(expression)]
+    fn applied(&mut self, left: usize) -> Result<usize, Bad>
+        requires { Fits 0 self.old }
+        ensures way { (a : Tree) (far : Bool) → TreeAt self.old left a → Came (Job.applied a) (program (Job.applied a)) self.old far self.new TreeAt result }
+        ensures spends { Spends 0 self.old self.new }
+    {
+        let place = self.place();
+        if self.accept(Mark::OpenParen) {
+            let right = self.expr(false)?;
+            self.want(Mark::CloseParen)?;
+            let node = self.put(Entry::Binary {
+                place,
+                op: Binary::Apply,
+                left,
+                right,
+            });
+            return self.applied(node);
+        }
+        if !self.accept(Mark::Select) {
+            return Ok(left);
+        }
+        let Some(part) = self.numeral() else {
+            return Err(Bad);
+        };
+        let node = self.put(Entry::Selection {
+            place,
+            tuple: left,
+            part,
+        });
+        self.applied(node)
+    }
+
+    // numeral | name | true | false | ( E ) | a set, a sequence, a tuple
+    #[cycle(expression)]
+    fn atom(&mut self) -> Result<usize, Bad>
+        requires { Fits 0 self.old }
+        ensures way { Came (Job.parse Sort.atom false) (program (Job.parse Sort.atom false)) self.old false self.new TreeAt result }
+        ensures spends { Spends 0 self.old self.new }
+    {
+        let place = self.place();
+        if let Some(numeral) = self.numeral() {
+            return Ok(self.put(Entry::Numeral(numeral)));
+        }
+        if let Some(name) = self.name() {
+            return Ok(self.put(Entry::Name(name)));
+        }
+        if let Some(value) = self.truth() {
+            return Ok(self.put(Entry::Truth { place, value }));
+        }
+        if self.accept(Mark::OpenParen) {
+            return self.paren();
+        }
+        if self.accept(Mark::OpenBrace) {
+            return self.collect(Bracket::Brace, place);
+        }
+        if self.accept(Mark::OpenBracket) {
+            return self.collect(Bracket::Square, place);
+        }
+        self.want(Mark::Mk)?;
+        self.tuple(place)
+    }
+
+    // E ), behind `(`
+    #[cycle(expression)]
+    fn paren(&mut self) -> Result<usize, Bad>
+        requires { Fits 0 self.old }
+        ensures way { Came (Job.parse Sort.atom false) in_parentheses self.old false self.new TreeAt result }
+        ensures spends { Spends 0 self.old self.new }
+    {
+        let inner = self.expr(false)?;
+        self.want(Mark::CloseParen)?;
+        Ok(inner)
+    }
+
+    // ( E , E ... ), behind `mk_`
+    #[cycle(expression)]
+    fn tuple(&mut self, place: usize) -> Result<usize, Bad>
+        requires { Fits 1 self.old }
+        ensures way { Came (Job.parse Sort.atom false) (tuple_tail place) self.old false self.new TreeAt result }
+        ensures spends { Spends 1 self.old self.new }
+    {
+        self.want(Mark::OpenParen)?;
+        let parts = self.items(Limit::Several)?;
+        self.want(Mark::CloseParen)?;
+        Ok(self.put(Entry::Collection {
+            place,
+            kind: Collection::Tuple,
+            first: Some(parts),
+        }))
+    }
+
+    // A set or a sequence, behind its opening bracket.
+    #[cycle(expression)]
+    fn collect(&mut self, bracket: Bracket, place: usize) -> Result<usize, Bad>
+        requires { Fits 1 self.old }
+        ensures way { Came (Job.parse Sort.atom false) (collected_of (bracket_of bracket) place) self.old false self.new TreeAt result }
+        ensures spends { Spends 1 self.old self.new }
+    {
+        if self.accept(bracket.closing()) {
+            return Ok(self.put(Entry::Collection {
+                place,
+                kind: bracket.kind(),
+                first: None,
+            }));
+        }
+        let node = self.expr(false)?;
+        if self.accept(Mark::Bar) {
+            return self.compre(bracket, place, node);
+        }
+        if self.accept(Mark::Comma) {
+            return self.after_comma(bracket, place, node);
+        }
+        self.want(bracket.closing())?;
+        let item = self.put(Entry::Item { node, next: None });
+        Ok(self.put(Entry::Collection {
+            place,
+            kind: bracket.kind(),
+            first: Some(item),
+        }))
+    }
+
+    // More members, or the end of a range, behind the first and its comma.
+    #[cycle(expression)]
+    fn after_comma(&mut self, bracket: Bracket, place: usize, first: usize) -> Result<usize, Bad>
+        requires { Fits 2 self.old }
+        ensures way { (a : Tree) → TreeAt self.old first a → Came (Job.parse Sort.atom false) (after_comma (bracket_of bracket) place a) self.old false self.new TreeAt result }
+        ensures spends { Spends 2 self.old self.new }
+    {
+        match bracket {
+            Bracket::Brace => {
+                if self.accept(Mark::Ellipsis) {
+                    self.range(place, first)
+                } else {
+                    self.members(bracket, place, first)
+                }
+            }
+            Bracket::Square => self.members(bracket, place, first),
+        }
+    }
+
+    // More members, behind the first and its comma.
+    #[cycle(expression)]
+    fn members(&mut self, bracket: Bracket, place: usize, node: usize) -> Result<usize, Bad>
+        requires { Fits 2 self.old }
+        ensures way { (a : Tree) → TreeAt self.old node a → Came (Job.parse Sort.atom false) (members_of (bracket_of bracket) place a) self.old false self.new TreeAt result }
+        ensures spends { Spends 2 self.old self.new }
+    {
+        let next = self.items(Limit::Any)?;
+        self.want(bracket.closing())?;
+        let item = self.put(Entry::Item {
             node,
-            next: right.next,
-        },
-        inside,
-        table,
-    )
+            next: Some(next),
+        });
+        Ok(self.put(Entry::Collection {
+            place,
+            kind: bracket.kind(),
+            first: Some(item),
+        }))
+    }
+
+    // , E }, behind `{ E , ...`
+    #[cycle(expression)]
+    fn range(&mut self, place: usize, start: usize) -> Result<usize, Bad>
+        requires { Fits 1 self.old }
+        ensures way { (a : Tree) → TreeAt self.old start a → Came (Job.parse Sort.atom false) (to_range_end place a) self.old false self.new TreeAt result }
+        ensures spends { Spends 1 self.old self.new }
+    {
+        self.want(Mark::Comma)?;
+        let end = self.expr(false)?;
+        self.want(Mark::CloseBrace)?;
+        Ok(self.put(Entry::Range { place, start, end }))
+    }
+
+    // B or B & E, behind the member and `|`
+    #[cycle(expression)]
+    fn compre(&mut self, bracket: Bracket, place: usize, member: usize) -> Result<usize, Bad>
+        requires { Fits 1 self.old }
+        ensures way { (a : Tree) → TreeAt self.old member a → Came (Job.parse Sort.atom false) (after_bar (bracket_of bracket) place a) self.old false self.new TreeAt result }
+        ensures spends { Spends 1 self.old self.new }
+    {
+        let bind = self.bind()?;
+        if !self.accept(Mark::Ampersand) {
+            self.want(bracket.closing())?;
+            return Ok(self.put(Entry::Comprehension {
+                place,
+                kind: bracket.kind(),
+                member,
+                name: bind.name,
+                set: bind.set,
+                condition: None,
+            }));
+        }
+        let condition = self.expr(false)?;
+        self.want(bracket.closing())?;
+        Ok(self.put(Entry::Comprehension {
+            place,
+            kind: bracket.kind(),
+            member,
+            name: bind.name,
+            set: bind.set,
+            condition: Some(condition),
+        }))
+    }
+
+    // E (, E)*
+    #[cycle(expression)]
+    fn items(&mut self, limit: Limit) -> Result<usize, Bad>
+        requires { Fits 1 self.old }
+        ensures way { Came (Job.items (limit_of limit)) (program (Job.items (limit_of limit))) self.old false self.new TreesAt result }
+        ensures spends { Spends 1 self.old self.new }
+    {
+        let node = self.expr(false)?;
+        let Some(limit) = self.comma(limit)? else {
+            return Ok(self.put(Entry::Item { node, next: None }));
+        };
+        let next = self.items(limit)?;
+        Ok(self.put(Entry::Item {
+            node,
+            next: Some(next),
+        }))
+    }
 }
 
 fn join(op: Operation, place: usize, left: usize, right: usize) -> Entry
@@ -404,509 +616,4 @@ fn join(op: Operation, place: usize, left: usize, right: usize) -> Entry
             right,
         },
     }
-}
-
-// or-level (=> implication)?
-#[cycle(expression)]
-fn imply(
-    src: &Source<'_>,
-    at: usize,
-    inside: bool,
-    table: &mut Table<'_, Entry>,
-) -> Result<Read, usize>
-    requires { Fits src.now at 0 table.old }
-    ensures { Came (Job.parse Sort.implication inside) (program (Job.parse Sort.implication inside)) src.now at false 0 table.old table.new (λ x. x.next) (TreeAt src.now) result }
-{
-    let left = chain(src, Left::Or, at, inside, table)?;
-    if !src.is(left.next, Mark::Implies) {
-        return Ok(left);
-    }
-    let right = imply(src, left.next + 1, inside, table)?;
-    let place = src.place(left.next);
-    let node = put(
-        table,
-        Entry::Connective {
-            place,
-            op: Connective::Implies,
-            left: left.node,
-            right: right.node,
-        },
-    );
-    Ok(Read {
-        node,
-        next: right.next,
-    })
-}
-
-// Prefix signs.
-#[cycle(expression)]
-fn lead(
-    src: &Source<'_>,
-    level: Lead,
-    at: usize,
-    inside: bool,
-    table: &mut Table<'_, Entry>,
-) -> Result<Read, usize>
-    requires { Fits src.now at 0 table.old }
-    ensures { Came (Job.parse (Sort.lead (lead_of level)) inside) (program (Job.parse (Sort.lead (lead_of level)) inside)) src.now at false 0 table.old table.new (λ x. x.next) (TreeAt src.now) result }
-{
-    let Some(op) = src.leading(at, level) else {
-        return bare(src, level, at, inside, table);
-    };
-    let operand = lead(src, level, at + 1, inside, table)?;
-    let node = put(
-        table,
-        Entry::Unary {
-            place: src.place(at),
-            op,
-            operand: operand.node,
-        },
-    );
-    Ok(Read {
-        node,
-        next: operand.next,
-    })
-}
-
-// The level below.
-#[cycle(expression)]
-fn bare(
-    src: &Source<'_>,
-    level: Lead,
-    at: usize,
-    inside: bool,
-    table: &mut Table<'_, Entry>,
-) -> Result<Read, usize>
-    requires { Fits src.now at 0 table.old }
-    ensures { Came (Job.parse (under_lead (lead_of level)) inside) (program (Job.parse (under_lead (lead_of level)) inside)) src.now at false 0 table.old table.new (λ x. x.next) (TreeAt src.now) result }
-{
-    match level {
-        Lead::Not => relation(src, at, inside, table),
-        Lead::Minus => postfix(src, at, table),
-    }
-}
-
-// One relation at most.
-#[cycle(expression)]
-fn relation(
-    src: &Source<'_>,
-    at: usize,
-    inside: bool,
-    table: &mut Table<'_, Entry>,
-) -> Result<Read, usize>
-    requires { Fits src.now at 0 table.old }
-    ensures { Came (Job.parse Sort.relation inside) (program (Job.parse Sort.relation inside)) src.now at false 0 table.old table.new (λ x. x.next) (TreeAt src.now) result }
-{
-    let left = chain(src, Left::Sum, at, false, table)?;
-    let place = src.place(left.next);
-    if let Some(op) = src.relating(left.next) {
-        return side(src, place, op, left, left.next + 1, table);
-    }
-    if src.is(left.next, Mark::Not) {
-        let at = src.want(left.next + 1, Mark::In)?;
-        let at = src.want(at, Mark::Set)?;
-        return side(src, place, Binary::NotInSet, left, at, table);
-    }
-    if inside {
-        if !src.is(left.next, Mark::In) {
-            return Ok(left);
-        }
-        if !src.is(left.next + 1, Mark::Set) {
-            return Ok(left);
-        }
-        return side(src, place, Binary::InSet, left, left.next + 2, table);
-    }
-    if !src.is(left.next, Mark::In) {
-        return Ok(left);
-    }
-    let at = src.want(left.next + 1, Mark::Set)?;
-    side(src, place, Binary::InSet, left, at, table)
-}
-
-// The right side of a relation.
-#[cycle(expression)]
-fn side(
-    src: &Source<'_>,
-    place: usize,
-    op: Binary,
-    left: Read,
-    at: usize,
-    table: &mut Table<'_, Entry>,
-) -> Result<Read, usize>
-    requires { Fits src.now at 1 table.old }
-    ensures { (f : Bool) (a : Tree) → TreeAt src.now (items_of table.old) left a → Came (Job.parse Sort.relation f) (right_side place op a) src.now at false 1 table.old table.new (λ x. x.next) (TreeAt src.now) result }
-{
-    let right = chain(src, Left::Sum, at, false, table)?;
-    let node = put(
-        table,
-        Entry::Binary {
-            place,
-            op,
-            left: left.node,
-            right: right.node,
-        },
-    );
-    Ok(Read {
-        node,
-        next: right.next,
-    })
-}
-
-// An atom, applied and selected from.
-#[cycle(expression)]
-fn postfix(src: &Source<'_>, at: usize, table: &mut Table<'_, Entry>) -> Result<Read, usize>
-    requires { Fits src.now at 0 table.old }
-    ensures { (f : Bool) → Came (Job.parse Sort.postfix f) (program (Job.parse Sort.postfix f)) src.now at false 0 table.old table.new (λ x. x.next) (TreeAt src.now) result }
-{
-    let first = atom(src, at, table)?;
-    applied(src, first, table)
-}
-
-// ( E ) and .# numeral, any number of times
-#[cycle(expression)]
-fn applied(src: &Source<'_>, left: Read, table: &mut Table<'_, Entry>) -> Result<Read, usize>
-    requires { Fits src.now left.next 0 table.old }
-    ensures { (a : Tree) (far : Bool) → TreeAt src.now (items_of table.old) left a → Came (Job.applied a) (program (Job.applied a)) src.now left.next far 0 table.old table.new (λ x. x.next) (TreeAt src.now) result }
-{
-    let place = src.place(left.next);
-    if src.is(left.next, Mark::OpenParen) {
-        let argument = expr(src, left.next + 1, false, table)?;
-        let next = src.want(argument.next, Mark::CloseParen)?;
-        let node = put(
-            table,
-            Entry::Binary {
-                place,
-                op: Binary::Apply,
-                left: left.node,
-                right: argument.node,
-            },
-        );
-        return applied(src, Read { node, next }, table);
-    }
-    if !src.is(left.next, Mark::Select) {
-        return Ok(left);
-    }
-    let Some(part) = src.numeral(left.next + 1) else {
-        return Err(left.next + 1);
-    };
-    let node = put(
-        table,
-        Entry::Selection {
-            place,
-            tuple: left.node,
-            part,
-        },
-    );
-    applied(
-        src,
-        Read {
-            node,
-            next: left.next + 2,
-        },
-        table,
-    )
-}
-
-// numeral | name | true | false | ( E ) | a set, a sequence, a tuple
-#[cycle(expression)]
-fn atom(src: &Source<'_>, at: usize, table: &mut Table<'_, Entry>) -> Result<Read, usize>
-    requires { Fits src.now at 0 table.old }
-    ensures { Came (Job.parse Sort.atom false) (program (Job.parse Sort.atom false)) src.now at false 0 table.old table.new (λ x. x.next) (TreeAt src.now) result }
-{
-    let place = src.place(at);
-    if let Some(numeral) = src.numeral(at) {
-        return Ok(Read {
-            node: put(table, Entry::Numeral(numeral)),
-            next: at + 1,
-        });
-    }
-    if let Some(name) = src.name(at) {
-        return Ok(Read {
-            node: put(table, Entry::Name(name)),
-            next: at + 1,
-        });
-    }
-    if let Some(value) = src.truth(at) {
-        return Ok(Read {
-            node: put(table, Entry::Truth { place, value }),
-            next: at + 1,
-        });
-    }
-    if src.is(at, Mark::OpenParen) {
-        return paren(src, at + 1, table);
-    }
-    if src.is(at, Mark::OpenBrace) {
-        return collect(src, Bracket::Brace, place, at + 1, table);
-    }
-    if src.is(at, Mark::OpenBracket) {
-        return collect(src, Bracket::Square, place, at + 1, table);
-    }
-    let at = src.want(at, Mark::Mk)?;
-    tuple(src, place, at, table)
-}
-
-// E ), behind `(`
-#[cycle(expression)]
-fn paren(src: &Source<'_>, at: usize, table: &mut Table<'_, Entry>) -> Result<Read, usize>
-    requires { Fits src.now at 0 table.old }
-    ensures { Came (Job.parse Sort.atom false) (in_parentheses) src.now at false 0 table.old table.new (λ x. x.next) (TreeAt src.now) result }
-{
-    let inner = expr(src, at, false, table)?;
-    let next = src.want(inner.next, Mark::CloseParen)?;
-    Ok(Read {
-        node: inner.node,
-        next,
-    })
-}
-
-// ( E , E ... ), behind `mk_`
-#[cycle(expression)]
-fn tuple(
-    src: &Source<'_>,
-    place: usize,
-    at: usize,
-    table: &mut Table<'_, Entry>,
-) -> Result<Read, usize>
-    requires { Fits src.now at 1 table.old }
-    ensures { Came (Job.parse Sort.atom false) (tuple_tail place) src.now at false 1 table.old table.new (λ x. x.next) (TreeAt src.now) result }
-{
-    let at = src.want(at, Mark::OpenParen)?;
-    let parts = items(src, at, Limit::Several, table)?;
-    let next = src.want(parts.next, Mark::CloseParen)?;
-    let node = put(
-        table,
-        Entry::Collection {
-            place,
-            kind: Collection::Tuple,
-            first: parts.first,
-        },
-    );
-    Ok(Read { node, next })
-}
-
-// A set or a sequence, behind its opening bracket.
-#[cycle(expression)]
-fn collect(
-    src: &Source<'_>,
-    bracket: Bracket,
-    place: usize,
-    at: usize,
-    table: &mut Table<'_, Entry>,
-) -> Result<Read, usize>
-    requires { Fits src.now at 1 table.old }
-    ensures { Came (Job.parse Sort.atom false) (collected_of (bracket_of bracket) place) src.now at false 1 table.old table.new (λ x. x.next) (TreeAt src.now) result }
-{
-    if src.is(at, closing(bracket)) {
-        let node = put(
-            table,
-            Entry::Collection {
-                place,
-                kind: collected(bracket),
-                first: None,
-            },
-        );
-        return Ok(Read { node, next: at + 1 });
-    }
-    let first = expr(src, at, false, table)?;
-    if src.is(first.next, Mark::Bar) {
-        return compre(src, bracket, place, first, table);
-    }
-    if !src.is(first.next, Mark::Comma) {
-        let next = src.want(first.next, closing(bracket))?;
-        let item = put(
-            table,
-            Entry::Item {
-                node: first.node,
-                next: None,
-            },
-        );
-        let node = put(
-            table,
-            Entry::Collection {
-                place,
-                kind: collected(bracket),
-                first: Some(item),
-            },
-        );
-        return Ok(Read { node, next });
-    }
-    members(src, bracket, place, first, table)
-}
-
-// More members, or the end of a range, behind the first and its comma.
-#[cycle(expression)]
-fn members(
-    src: &Source<'_>,
-    bracket: Bracket,
-    place: usize,
-    first: Read,
-    table: &mut Table<'_, Entry>,
-) -> Result<Read, usize>
-    requires { Fits src.now (first.next + 1) 2 table.old }
-    ensures { (a : Tree) → TreeAt src.now (items_of table.old) first a → Came (Job.parse Sort.atom false) (after_comma (bracket_of bracket) place a) src.now (first.next + 1) false 2 table.old table.new (λ x. x.next) (TreeAt src.now) result }
-{
-    match bracket {
-        Bracket::Brace => {
-            if src.is(first.next + 1, Mark::Ellipsis) {
-                range(src, place, first, table)
-            } else {
-                rest(src, bracket, place, first, table)
-            }
-        }
-        Bracket::Square => rest(src, bracket, place, first, table),
-    }
-}
-
-// More members, behind the first and its comma.
-#[cycle(expression)]
-fn rest(
-    src: &Source<'_>,
-    bracket: Bracket,
-    place: usize,
-    first: Read,
-    table: &mut Table<'_, Entry>,
-) -> Result<Read, usize>
-    requires { Fits src.now (first.next + 1) 2 table.old }
-    ensures { (a : Tree) → TreeAt src.now (items_of table.old) first a → Came (Job.parse Sort.atom false) (members_of (bracket_of bracket) place a) src.now (first.next + 1) false 2 table.old table.new (λ x. x.next) (TreeAt src.now) result }
-{
-    let rest = items(src, first.next + 1, Limit::Any, table)?;
-    let next = src.want(rest.next, closing(bracket))?;
-    let item = put(
-        table,
-        Entry::Item {
-            node: first.node,
-            next: rest.first,
-        },
-    );
-    let node = put(
-        table,
-        Entry::Collection {
-            place,
-            kind: collected(bracket),
-            first: Some(item),
-        },
-    );
-    Ok(Read { node, next })
-}
-
-// , E }, behind `{ E , ...`
-#[cycle(expression)]
-fn range(
-    src: &Source<'_>,
-    place: usize,
-    start: Read,
-    table: &mut Table<'_, Entry>,
-) -> Result<Read, usize>
-    requires { Fits src.now (start.next + 2) 1 table.old }
-    ensures { (a : Tree) → TreeAt src.now (items_of table.old) start a → Came (Job.parse Sort.atom false) (to_range_end place a) src.now (start.next + 2) false 1 table.old table.new (λ x. x.next) (TreeAt src.now) result }
-{
-    let at = src.want(start.next + 2, Mark::Comma)?;
-    let end = expr(src, at, false, table)?;
-    let next = src.want(end.next, Mark::CloseBrace)?;
-    let node = put(
-        table,
-        Entry::Range {
-            place,
-            start: start.node,
-            end: end.node,
-        },
-    );
-    Ok(Read { node, next })
-}
-
-// B or B & E, behind the member and `|`
-#[cycle(expression)]
-fn compre(
-    src: &Source<'_>,
-    bracket: Bracket,
-    place: usize,
-    member: Read,
-    table: &mut Table<'_, Entry>,
-) -> Result<Read, usize>
-    requires { Fits src.now (member.next + 1) 1 table.old }
-    ensures { (a : Tree) → TreeAt src.now (items_of table.old) member a → Came (Job.parse Sort.atom false) (after_bar (bracket_of bracket) place a) src.now (member.next + 1) false 1 table.old table.new (λ x. x.next) (TreeAt src.now) result }
-{
-    let bind = bind(src, member.next + 1, table)?;
-    if !src.is(bind.next, Mark::Ampersand) {
-        let next = src.want(bind.next, closing(bracket))?;
-        let node = put(
-            table,
-            Entry::Comprehension {
-                place,
-                kind: collected(bracket),
-                member: member.node,
-                name: bind.name,
-                set: bind.set,
-                condition: None,
-            },
-        );
-        return Ok(Read { node, next });
-    }
-    let condition = expr(src, bind.next + 1, false, table)?;
-    let next = src.want(condition.next, closing(bracket))?;
-    let node = put(
-        table,
-        Entry::Comprehension {
-            place,
-            kind: collected(bracket),
-            member: member.node,
-            name: bind.name,
-            set: bind.set,
-            condition: Some(condition.node),
-        },
-    );
-    Ok(Read { node, next })
-}
-
-// E (, E)*
-#[cycle(expression)]
-fn items(
-    src: &Source<'_>,
-    at: usize,
-    limit: Limit,
-    table: &mut Table<'_, Entry>,
-) -> Result<List, usize>
-    requires { Fits src.now at 1 table.old }
-    ensures { Came (Job.items (limit_of limit)) (program (Job.items (limit_of limit))) src.now at false 1 table.old table.new (λ x. x.next) (TreesAt src.now) result }
-{
-    let item = expr(src, at, false, table)?;
-    match following(limit) {
-        After::May(rest) => {
-            if src.is(item.next, Mark::Comma) {
-                further(src, item, rest, table)
-            } else {
-                Ok(last(item, table))
-            }
-        }
-        After::Must(rest) => {
-            src.want(item.next, Mark::Comma)?;
-            further(src, item, rest, table)
-        }
-        After::Last => Ok(last(item, table)),
-    }
-}
-
-// The items behind one and its comma.
-#[cycle(expression)]
-fn further(
-    src: &Source<'_>,
-    item: Read,
-    rest: Limit,
-    table: &mut Table<'_, Entry>,
-) -> Result<List, usize>
-    requires { (Sees src.now item.next (is_mark Comma)) × (Fits src.now (item.next + 1) 2 table.old) }
-    ensures { (l : StepLimit) (a : Tree) → TreeAt src.now (items_of table.old) item a → Came (Job.items l) (further_items l rest a) src.now (item.next + 1) false 2 table.old table.new (λ x. x.next) (TreesAt src.now) result }
-{
-    let more = items(src, item.next + 1, rest, table)?;
-    let first = put(
-        table,
-        Entry::Item {
-            node: item.node,
-            next: more.first,
-        },
-    );
-    Ok(List {
-        first: Some(first),
-        next: more.next,
-    })
 }

@@ -1,11 +1,10 @@
-// What the reader reads, and how it looks at it.
-ghost use Rattle.std.specs.Prelude.{◌≡◌, ◌+◌, ◌<◌, ◌≤◌, true, [], ◌∷◌, ◌++◌, length, Some, None};
-ghost use Rattle.tables.specs.Items.{items as items_of, room};
+// The reader, and how it looks at what it reads.
+ghost use Rattle.std.specs.Prelude.{◌≡◌, ℕ, List, MatchBool, MatchOption, MatchResult};
 ghost use Rattle.grammar.specs.Steps.{is as is_mark, is_name, is_numeral, is_truth, is_quantifier, joins, relates, leads, operation, infix_at, relation_of, unary_of, prefix_at};
 ghost use Rattle.grammar.specs.Steps.{next as next_of};
-ghost use Rattle.tokens.specs.Spelling.{number as number_of};
+ghost use Rattle.tokens.specs.Lexeme.{symbol};
 ghost use Rattle.grammar.specs.Grammar.{closing as closing_of, kind as kind_of};
-ghost use Rattle.reading.specs.Sources.{TokenAt, place_at, Looks, Wants, Found, IsName, IsNumeral, IsTruth, IsQuantifier, limit_of, after_of, bracket_of, Reads, Shows};
+ghost use Rattle.reading.specs.Sources.{place_at, Takes, Leaves, Both, Alone, Found, IsName, IsNumeral, IsTruth, IsQuantifier, Follows, Took, Puts, Fits, limit_of, bracket_of};
 ghost use Rattle.reading.specs.Signs.{left_of, lead_of, operation_of};
 
 use crate::signs::{Lead, Left, Operation, chain_sign, lead_sign, relation_sign};
@@ -14,218 +13,172 @@ use syntax::{Binary, Collection, Quantifier, Unary};
 use tables::Table;
 use tokens::{Kind, Mark, Token};
 
-// A text and its tokens.
-#[derive(Clone, Copy)]
-pub struct Source<'a> {
+// A text, its tokens that are not yet read, and the entries of what was read.
+#[derive(Drop)]
+pub struct Reader<'a, 't> {
     pub text: &'a [u8],
-    pub tokens: &'a [Token],
+    pub rest: &'a [Token],
+    pub table: Table<'t, Entry>,
 }
 
-// The entry of what was read, and the number of the token behind it.
-#[derive(Clone, Copy)]
-pub struct Read {
-    pub node: usize,
-    pub next: usize,
-}
+// The next token, or the end where there is none, continues no sentence's beginning.
+#[derive(Clone, Copy, Debug, PartialEq, Eq)]
+pub struct Bad;
 
-// The first entry of a list that was read, and the number of the token behind it.
-#[derive(Clone, Copy)]
-pub struct List {
-    pub first: Option<usize>,
-    pub next: usize,
-}
-
-// A bind: its name, the entry of its set, and the number of the token behind it.
-#[derive(Clone, Copy)]
+// A bind: its name, and the entry of its set.
+#[derive(Clone, Copy, Debug, PartialEq, Eq)]
 pub struct Binding {
     pub name: Span,
     pub set: usize,
-    pub next: usize,
 }
 
-// The first alternative, the right side of `others`, and the number of the token behind them.
-#[derive(Clone, Copy)]
+// The first alternative, and the right side of `others`.
+#[derive(Clone, Copy, Debug, PartialEq, Eq)]
 pub struct Branches {
     pub first: usize,
     pub others: Option<usize>,
-    pub next: usize,
 }
 
 // The brackets of sets and sequences.
-#[derive(Clone, Copy)]
+#[derive(Clone, Copy, Debug, PartialEq, Eq)]
 pub enum Bracket {
     Brace,
     Square,
 }
 
-pub(crate) fn closing(bracket: Bracket) -> Mark
-    ensures { result ≡ closing_of (bracket_of bracket) }
-{
-    match bracket {
-        Bracket::Brace => Mark::CloseBrace,
-        Bracket::Square => Mark::CloseBracket,
+impl Bracket {
+    pub(crate) fn closing(self) -> Mark
+        ensures { result ≡ closing_of (bracket_of self) }
+    {
+        match self {
+            Bracket::Brace => Mark::CloseBrace,
+            Bracket::Square => Mark::CloseBracket,
+        }
     }
-}
 
-pub(crate) fn collected(bracket: Bracket) -> Collection
-    ensures { result ≡ kind_of (bracket_of bracket) }
-{
-    match bracket {
-        Bracket::Brace => Collection::Set,
-        Bracket::Square => Collection::Sequence,
+    pub(crate) fn kind(self) -> Collection
+        ensures { result ≡ kind_of (bracket_of self) }
+    {
+        match self {
+            Bracket::Brace => Collection::Set,
+            Bracket::Square => Collection::Sequence,
+        }
     }
 }
 
 // How many parts: any number, at most so many and one more, or two to eight.
-#[derive(Clone, Copy)]
+#[derive(Clone, Copy, Debug, PartialEq, Eq)]
 pub enum Limit {
     Any,
     Most(u8),
     Several,
 }
 
-// What may follow a part.
-#[derive(Clone, Copy)]
-pub enum After {
-    May(Limit),
-    Must(Limit),
-    Last,
-}
-
-pub(crate) fn following(limit: Limit) -> After
-    ensures { after_of result ≡ next_of (limit_of limit) }
-{
-    match limit {
-        Limit::Any => After::May(Limit::Any),
-        Limit::Several => After::Must(Limit::Most(6)),
-        Limit::Most(n) => {
-            if n == 0 {
-                After::Last
-            } else {
-                After::May(Limit::Most(n - 1))
-            }
-        }
-    }
-}
-
 // Whether a token is this mark.
 fn is_mark(kind: Kind, mark: Mark) -> bool
-    ensures { Reads kind (is_mark mark) result }
+    ensures { (bytes : List ℕ) → result ≡ is_mark mark (symbol kind bytes) }
 {
     match kind {
-        Kind::Mark(here) => number(here) == number(mark),
+        Kind::Mark(here) => here == mark,
         _ => false,
     }
 }
 
-fn number(mark: Mark) -> u8
-    ensures { result ≡ number_of mark }
+// The part of the text that a token takes.
+fn span_of(token: Token) -> Span
+    ensures { result ≡ record { place = token.place; len = token.len } }
 {
-    mark as u8
-}
-
-fn name_span(token: Token) -> Option<Span>
-    ensures { Shows token is_name IsName result }
-{
-    match token.kind {
-        Kind::Name => Some(Span {
-            place: token.place,
-            len: token.len,
-        }),
-        _ => None,
+    Span {
+        place: token.place,
+        len: token.len,
     }
 }
 
-fn numeral_span(token: Token) -> Option<Span>
-    ensures { Shows token is_numeral IsNumeral result }
-{
-    match token.kind {
-        Kind::Numeral => Some(Span {
-            place: token.place,
-            len: token.len,
-        }),
-        _ => None,
-    }
-}
-
-impl Source<'_> {
-    fn token(&self, at: usize) -> Option<Token>
-        ensures { TokenAt self.now at result }
+impl Reader<'_, '_> {
+    // The place of the next token, or the text's length where there is none.
+    pub(crate) fn place(&self) -> usize
+        ensures { result ≡ place_at self.now }
     {
-        if at < self.tokens.len() {
-            Some(self.tokens[at])
-        } else {
-            None
-        }
-    }
-
-    // The place of a token.
-    pub(crate) fn place(&self, at: usize) -> usize
-        ensures { result ≡ place_at self.now at }
-    {
-        match self.token(at) {
+        match self.rest.first() {
             Some(token) => token.place,
-            None => 0,
+            None => self.text.len(),
         }
     }
 
-    // Is this mark here?
-    pub(crate) fn is(&self, at: usize, mark: Mark) -> bool
-        ensures { Looks self.now at (is_mark mark) result }
+    // Takes this mark, if it comes next.
+    pub(crate) fn accept(&mut self, mark: Mark) -> bool
+        ensures { MatchBool result (Takes self.old self.new (is_mark mark)) (Leaves self.old self.new (is_mark mark)) }
     {
-        match self.token(at) {
-            Some(token) => is_mark(token.kind, mark),
-            None => false,
+        match self.rest.split_first() {
+            Some((token, rest)) if is_mark(token.kind, mark) => {
+                self.rest = rest;
+                true
+            }
+            _ => false,
         }
     }
 
-    // The number of the token behind this mark, or of the one that stands in its place.
-    pub(crate) fn want(&self, at: usize, mark: Mark) -> Result<usize, usize>
-        ensures { Wants self.now at (is_mark mark) result }
+    // Takes this mark, which has to come next.
+    pub(crate) fn want(&mut self, mark: Mark) -> Result<(), Bad>
+        ensures { MatchResult result (λ _. Takes self.old self.new (is_mark mark)) (λ _. Leaves self.old self.new (is_mark mark)) }
     {
-        if self.is(at, mark) {
-            Ok(at + 1)
-        } else {
-            Err(at)
-        }
+        if self.accept(mark) { Ok(()) } else { Err(Bad) }
     }
 
-    pub(crate) fn name(&self, at: usize) -> Option<Span>
-        ensures { Found self.now at is_name (IsName self.now.text.now) result }
+    // Takes both marks, if they come next.
+    pub(crate) fn accept_both(&mut self, first: Mark, second: Mark) -> bool
+        ensures { MatchBool result (Both self.old self.new (is_mark first) (is_mark second)) (Alone self.old self.new (is_mark first) (is_mark second)) }
     {
-        match self.token(at) {
-            Some(token) => name_span(token),
-            None => None,
+        let rest = self.rest;
+        if self.accept(first) {
+            if self.accept(second) {
+                return true;
+            }
+            self.rest = rest;
         }
+        false
     }
 
-    pub(crate) fn numeral(&self, at: usize) -> Option<Span>
-        ensures { Found self.now at is_numeral (IsNumeral self.now.text.now) result }
+    pub(crate) fn name(&mut self) -> Option<Span>
+        ensures { Found self.old self.new is_name (IsName self.old.text.now) result }
     {
-        match self.token(at) {
-            Some(token) => numeral_span(token),
-            None => None,
-        }
+        let (token, rest) = self.rest.split_first()?;
+        let Kind::Name = token.kind else {
+            return None;
+        };
+        self.rest = rest;
+        Some(span_of(*token))
     }
 
-    pub(crate) fn truth(&self, at: usize) -> Option<bool>
-        ensures { Found self.now at is_truth IsTruth result }
+    pub(crate) fn numeral(&mut self) -> Option<Span>
+        ensures { Found self.old self.new is_numeral (IsNumeral self.old.text.now) result }
     {
-        if self.is(at, Mark::True) {
+        let (token, rest) = self.rest.split_first()?;
+        let Kind::Numeral = token.kind else {
+            return None;
+        };
+        self.rest = rest;
+        Some(span_of(*token))
+    }
+
+    pub(crate) fn truth(&mut self) -> Option<bool>
+        ensures { Found self.old self.new is_truth IsTruth result }
+    {
+        if self.accept(Mark::True) {
             Some(true)
-        } else if self.is(at, Mark::False) {
+        } else if self.accept(Mark::False) {
             Some(false)
         } else {
             None
         }
     }
 
-    pub(crate) fn quantifier(&self, at: usize) -> Option<Quantifier>
-        ensures { Found self.now at is_quantifier IsQuantifier result }
+    pub(crate) fn quantifier(&mut self) -> Option<Quantifier>
+        ensures { Found self.old self.new is_quantifier IsQuantifier result }
     {
-        if self.is(at, Mark::Forall) {
+        if self.accept(Mark::Forall) {
             Some(Quantifier::Forall)
-        } else if self.is(at, Mark::Exists) {
+        } else if self.accept(Mark::Exists) {
             Some(Quantifier::Exists)
         } else {
             None
@@ -233,65 +186,58 @@ impl Source<'_> {
     }
 
     // The operation of a sign of this level.
-    pub(crate) fn chained(&self, at: usize, level: Left) -> Option<Operation>
-        ensures { Found self.now at (joins (left_of level)) (λ x o. operation_of o ≡ operation (infix_at x.symbol)) result }
+    pub(crate) fn chained(&mut self, level: Left) -> Option<Operation>
+        ensures { Found self.old self.new (joins (left_of level)) (λ x o. operation_of o ≡ operation (infix_at x.symbol)) result }
     {
-        match self.token(at) {
-            Some(token) => chain_sign(level, token.kind),
-            None => None,
-        }
+        let (token, rest) = self.rest.split_first()?;
+        let op = chain_sign(level, token.kind)?;
+        self.rest = rest;
+        Some(op)
     }
 
     // The operation of a relation.
-    pub(crate) fn relating(&self, at: usize) -> Option<Binary>
-        ensures { Found self.now at relates (λ x o. o ≡ relation_of (infix_at x.symbol)) result }
+    pub(crate) fn relating(&mut self) -> Option<Binary>
+        ensures { Found self.old self.new relates (λ x o. o ≡ relation_of (infix_at x.symbol)) result }
     {
-        match self.token(at) {
-            Some(token) => relation_sign(token.kind),
-            None => None,
-        }
+        let (token, rest) = self.rest.split_first()?;
+        let op = relation_sign(token.kind)?;
+        self.rest = rest;
+        Some(op)
     }
 
     // The operation of a prefix sign of this level.
-    pub(crate) fn leading(&self, at: usize, level: Lead) -> Option<Unary>
-        ensures { Found self.now at (leads (lead_of level)) (λ x o. o ≡ unary_of (prefix_at x.symbol)) result }
+    pub(crate) fn leading(&mut self, level: Lead) -> Option<Unary>
+        ensures { Found self.old self.new (leads (lead_of level)) (λ x o. o ≡ unary_of (prefix_at x.symbol)) result }
     {
-        match self.token(at) {
-            Some(token) => lead_sign(level, token.kind),
-            None => None,
+        let (token, rest) = self.rest.split_first()?;
+        let op = lead_sign(level, token.kind)?;
+        self.rest = rest;
+        Some(op)
+    }
+
+    // Takes the comma behind a part, and says how many parts come then. There is none where the list ends.
+    pub(crate) fn comma(&mut self, limit: Limit) -> Result<Option<Limit>, Bad>
+        ensures follows { Follows (next_of (limit_of limit)) self.old self.new result }
+        ensures took { Took self.old self.new result }
+    {
+        match limit {
+            Limit::Any => Ok(self.accept(Mark::Comma).then_some(Limit::Any)),
+            Limit::Most(0) => Ok(None),
+            Limit::Most(n) => Ok(self.accept(Mark::Comma).then_some(Limit::Most(n - 1))),
+            Limit::Several => {
+                self.want(Mark::Comma)?;
+                Ok(Some(Limit::Most(6)))
+            }
         }
     }
-}
 
-// Adds an entry to a table that has a slot left.
-pub(crate) fn put(table: &mut Table<'_, Entry>, entry: Entry) -> usize
-    requires { length (items_of table.old) < room table.old }
-    ensures items { items_of table.new ≡ items_of table.old ++ entry ∷ [] }
-    ensures room { room table.new ≡ room table.old }
-    ensures node { result ≡ length (items_of table.old) }
-{
-    let node = table.len();
-    let _ = table.push(entry);
-    node
-}
-
-// The last part of a list.
-pub(crate) fn last(part: Read, table: &mut Table<'_, Entry>) -> List
-    requires { length (items_of table.old) < room table.old }
-    ensures items { items_of table.new ≡ items_of table.old ++ Entry.Item part.node None ∷ [] }
-    ensures room { room table.new ≡ room table.old }
-    ensures first { result.first ≡ Some (length (items_of table.old)) }
-    ensures next { result.next ≡ part.next }
-{
-    let first = put(
-        table,
-        Entry::Item {
-            node: part.node,
-            next: None,
-        },
-    );
-    List {
-        first: Some(first),
-        next: part.next,
+    // Adds an entry.
+    pub(crate) fn put(&mut self, entry: Entry) -> usize
+        requires { Fits 1 self.old }
+        ensures { Puts self.old self.new entry result }
+    {
+        let node = self.table.len();
+        let _ = self.table.push(entry);
+        node
     }
 }

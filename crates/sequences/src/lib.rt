@@ -11,17 +11,18 @@ ghost use Rattle.values.specs.Operators.{nth};
 ghost use Rattle.values.specs.Cells.{in_cells};
 ghost use Rattle.sequences.specs.Count.{counted, width};
 
-use values::{Fault, Full};
+use values::{Fault, Full, Kind};
 
 /// `s` past its first `n` values.
 pub fn skip(n: usize, s: &[i32]) -> &[i32]
     ensures { result.now ≡ past n s.now }
 {
     let mut rest = s;
-    let mut left = n;
-    while left > 0 && !rest.is_empty() {
+    for _ in 0..n {
+        if rest.is_empty() {
+            break;
+        }
         rest = values::split(rest).1;
-        left -= 1;
     }
     rest
 }
@@ -63,7 +64,7 @@ pub fn tail(s: &[i32], out: &mut [i32]) -> Result<usize, Full>
     if out.len() < 2 || members < 1 {
         return Err(Full);
     }
-    out[0] = 3;
+    out[0] = Kind::Sequence as i32;
     out[1] = (members - 1) as i32;
     values::append(out, 2, values::split(values::inner(s)).1)
 }
@@ -78,7 +79,7 @@ pub fn join(a: &[i32], b: &[i32], out: &mut [i32]) -> Result<usize, Full>
     if out.len() < 2 || members > 2147483647 {
         return Err(Full);
     }
-    out[0] = 3;
+    out[0] = Kind::Sequence as i32;
     out[1] = members as i32;
     let m = values::append(out, 2, x)?;
     values::append(out, m, y)
@@ -111,10 +112,8 @@ fn numbers(a: i32, count: usize, out: &mut [i32]) -> Result<usize, Full>
     ensures { MatchResult result (λ n. (take n out.new ≡ take 2 out.old ++ row (span a count)) × (n ≡ 2 + 2 * count) × (n ≤ length out.old)) (λ _. length out.old < 2 + 2 * count) }
 {
     let mut at: usize = 2;
-    let mut i: usize = 0;
-    while i < count {
-        at = values::append(out, at, &[0, shifted(a, i)])?;
-        i += 1;
+    for i in 0..count {
+        at = values::append(out, at, &[Kind::Number as i32, shifted(a, i)])?;
     }
     Ok(at)
 }
@@ -128,7 +127,7 @@ pub fn range(a: i32, b: i32, out: &mut [i32]) -> Result<usize, Full>
     if out.len() < 2 || count > 99 {
         return Err(Full);
     }
-    out[0] = 2;
+    out[0] = Kind::Set as i32;
     out[1] = count as i32;
     numbers(a, count, out)
 }

@@ -1,5 +1,5 @@
 -- One walk through two rows of members.
-use Rattle.std.specs.Prelude.{◌≡◌, Bool, true, false, cond, List, [], ◌∷◌, ◌++◌, length, ℤ}
+use Rattle.std.specs.Prelude.{◌≡◌, ℕ, Option, None, Some, Bool, true, false, cond, List, [], ◌∷◌, ◌++◌, length, ℤ}
 use Rattle.std.specs.declared.cmp.Ordering.TheVariants.{Less, Equal, Greater}
 use Rattle.std.specs.declared.cmp.Ordering.{Ordering}
 use Rattle.std.specs.Ordering.{is_eq, is_lt}
@@ -7,8 +7,6 @@ use Rattle.values.specs.Value.{Value, compare, by_cells, row}
 use Rattle.values.specs.Sets.{by, union, inter, difference}
 use Rattle.sets.specs.declared.Blend.{Blend}
 use Rattle.sets.specs.declared.Blend.TheVariants.{Union, Inter, Difference}
-use Rattle.sets.specs.declared.Place.{Place}
-use Rattle.sets.specs.declared.Place.TheVariants.{Found, At}
 
 -- what the three are
 abbrev pub blended : Blend → List Value → List Value → List Value
@@ -49,7 +47,7 @@ side (x ∷ xs) (y ∷ ys) = by_cells (x ∷ xs) (y ∷ ys)
 abbrev pub taken : Bool → Ordering → List ℤ → List ℤ → List ℤ
 taken keep o xs ys = cond keep (by o xs xs ys) []
 
--- where v goes to make `with` of the members `us`: it is there, or it goes behind the first `p` cells
-abbrev pub Placed : List Value → List Value → Value → Place → Type 0
-Placed with us v Found = with ≡ us
-Placed with us v (At p) = (ts : List Value) × (ws : List Value) × (us ≡ ts ++ ws) × (length (row ts) ≡ p) × (with ≡ ts ++ v ∷ ws)
+-- where v goes to make `with` of the members `us`: nowhere, as it is there, or behind the first `p` cells
+abbrev pub Placed : List Value → List Value → Value → Option ℕ → Type 0
+Placed with us v None = with ≡ us
+Placed with us v (Some p) = (ts : List Value) × (ws : List Value) × (us ≡ ts ++ ws) × (length (row ts) ≡ p) × (with ≡ ts ++ v ∷ ws)

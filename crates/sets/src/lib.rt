@@ -2,7 +2,7 @@
 
 #![tactic(auto)]
 
-ghost use Rattle.std.specs.Prelude.{◌≡◌, ℕ, ◌+◌, ◌-◌, ◌<◌, ◌≤◌, true, List, [], ◌∷◌, ◌++◌, length, take, ℤ, IfOk, if◌then◌else◌, MatchResult, OnErr};
+ghost use Rattle.std.specs.Prelude.{◌≡◌, ℕ, ◌+◌, ◌-◌, ◌<◌, ◌≤◌, true, List, [], ◌∷◌, ◌++◌, length, take, ℤ, IfOk, IfSome, if◌then◌else◌, MatchResult, OnErr};
 ghost use Rattle.syntax.specs.declared.Collection.{Collection};
 ghost use Rattle.syntax.specs.declared.Collection.TheVariants.{Set};
 ghost use Rattle.values.specs.Value.{Value, past, cells, row, of, code};
@@ -11,10 +11,9 @@ ghost use Rattle.values.specs.Lawful.{ascending};
 ghost use Rattle.values.specs.Sets.{member, every, insert, gathered};
 ghost use Rattle.sets.specs.Walk.{keeps as keeps_at, side as side_of, taken as taken_of, merge, blended, Placed};
 ghost use Rattle.sets.specs.Laws.{Order, Membership};
-ghost use Rattle.sets.specs.declared.Place.TheVariants.{Found, At};
 
 use std::cmp::Ordering;
-use values::Full;
+use values::{Full, Kind};
 
 /// The order of values is total, and tells them apart.
 pub fn order_laws()
@@ -26,7 +25,7 @@ pub fn membership_laws()
     ensures { Membership }
 {}
 
-/// Which members of two sets stay.
+/// Which members of two sets stay. By name, and not by a closure: the clauses speak of these three.
 #[derive(Clone, Copy)]
 pub enum Blend {
     Union,
@@ -57,7 +56,7 @@ fn side(x: &[i32], y: &[i32]) -> Ordering
     }
 }
 
-/// The one or the other.
+/// The one or the other. A function of its own, so that one clause tells both cases to the proofs of the walks.
 fn choose<'a>(first: bool, x: &'a [i32], y: &'a [i32]) -> &'a [i32]
     ensures { result.now ≡ (if first then x.now else y.now) }
 {
@@ -68,19 +67,11 @@ fn choose<'a>(first: bool, x: &'a [i32], y: &'a [i32]) -> &'a [i32]
 fn taken<'a>(keep: bool, o: Ordering, x: &'a [i32], y: &'a [i32]) -> &'a [i32]
     ensures { result.now ≡ taken_of keep o x.now y.now }
 {
-    if !keep {
-        return &[];
+    match (keep, o) {
+        (false, _) => &[],
+        (true, Ordering::Greater) => y,
+        (true, _) => x,
     }
-    match o {
-        Ordering::Greater => y,
-        _ => x,
-    }
-}
-
-fn one(b: bool) -> usize
-    ensures { result ≡ (if b then 1 else 0) }
-{
-    if b { 1 } else { 0 }
 }
 
 /// Writes the members that stay behind the first `n` cells of `out`. Says where they end, and how many they are.
@@ -93,13 +84,13 @@ fn weave(op: Blend, a: &[i32], b: &[i32], out: &mut [i32], n: usize) -> Result<(
     let mut y = b;
     let mut at = n;
     let mut made: usize = 0;
-    while x.len() > 0 || y.len() > 0 {
+    while !x.is_empty() || !y.is_empty() {
         let (u, us) = values::split(x);
         let (t, ts) = values::split(y);
         let o = side(u, t);
         let keep = keeps(op, o);
         at = values::append(out, at, taken(keep, o, u, t))?;
-        made += one(keep);
+        made += usize::from(keep);
         x = choose(o.is_le(), us, x);
         y = choose(o.is_ge(), ts, y);
     }
@@ -114,7 +105,7 @@ pub fn combine(op: Blend, a: &[i32], b: &[i32], out: &mut [i32]) -> Result<usize
     if out.len() < 2 || a.len() > 200 || b.len() > 200 {
         return Err(Full);
     }
-    out[0] = 2;
+    out[0] = Kind::Set as i32;
     out[1] = 0;
     let (n, made) = weave(op, values::inner(a), values::inner(b), out, 2)?;
     out[1] = made as i32;
@@ -140,53 +131,39 @@ pub fn subset(a: &[i32], b: &[i32]) -> bool
     true
 }
 
-/// Where a value goes in a row of ascending members.
-#[derive(Clone, Copy)]
-enum Place {
-    Found,
-    At(usize),
-}
-
-/// Where `x` goes in a row of ascending values.
-fn seek(members: &[i32], x: &[i32]) -> Place
-    ensures inside { elim result [ Found ↦ Unit {0} | At p ↦ p ≤ length members.now ] }
+/// Where `x` goes in a row of ascending values: nowhere, if it is one of them.
+fn seek(members: &[i32], x: &[i32]) -> Option<usize>
+    ensures inside { IfSome result (λ p. p ≤ length members.now) }
     ensures placed { (us : List Value) (v : Value) → members.now ≡ row us → x.now ≡ cells v → Placed (insert v us) us v result }
 {
     let mut rest = members;
-    let mut at: usize = 0;
     while !rest.is_empty() {
         let (y, more) = values::split(rest);
         match values::compare(x, y) {
-            Ordering::Greater => {
-                at += y.len();
-                rest = more;
-            }
-            Ordering::Equal => return Place::Found,
-            Ordering::Less => return Place::At(at),
+            Ordering::Greater => rest = more,
+            Ordering::Equal => return None,
+            Ordering::Less => break,
         }
     }
-    Place::At(at)
+    Some(members.len() - rest.len())
 }
 
 /// Whether `x` is a value of the ascending row `s`.
 pub fn contains(s: &[i32], x: &[i32]) -> bool
     ensures { (vs : List Value) (v : Value) → s.now ≡ row vs → x.now ≡ cells v → ascending vs ≡ true → result ≡ member v vs }
 {
-    match seek(s, x) {
-        Place::Found => true,
-        Place::At(_) => false,
-    }
+    seek(s, x).is_none()
 }
 
-/// Where a new member goes: to its place in a set, else behind the others.
-fn locate(kind: i32, members: &[i32], x: &[i32]) -> Place
-    ensures inside { elim result [ Found ↦ Unit {0} | At p ↦ p ≤ length members.now ] }
+/// Where a new member goes: to its place in a set, unless it is there, else behind the others.
+fn locate(kind: i32, members: &[i32], x: &[i32]) -> Option<usize>
+    ensures inside { IfSome result (λ p. p ≤ length members.now) }
     ensures placed { (k : Collection) (us : List Value) (v : Value) → kind ≡ code k → members.now ≡ row us → x.now ≡ cells v → Placed (grown k us v) us v result }
 {
-    if kind == 2 {
+    if kind == Kind::Set as i32 {
         seek(members, x)
     } else {
-        Place::At(members.len())
+        Some(members.len())
     }
 }
 
@@ -208,17 +185,15 @@ pub fn grow(s: &mut [i32], n: usize) -> Result<usize, Full>
         return Err(Full);
     }
     let whole = &s[..];
-    match locate(whole[0], &whole[2..n], &whole[n..]) {
-        Place::Found => Ok(n),
-        Place::At(p) => {
-            if s.len() > 200 || s[1] > 200 {
-                return Err(Full);
-            }
-            s[1] += 1;
-            turn(s, 2 + p, s.len() - n);
-            Ok(s.len())
-        }
+    let Some(p) = locate(whole[0], &whole[2..n], &whole[n..]) else {
+        return Ok(n);
+    };
+    if s.len() > 200 || s[1] > 200 {
+        return Err(Full);
     }
+    s[1] += 1;
+    turn(s, 2 + p, s.len() - n);
+    Ok(s.len())
 }
 
 /// The set of the values of a row. Room for them all, repeated ones too, and for a pair of cells suffices.
@@ -229,7 +204,7 @@ pub fn gather(s: &[i32], out: &mut [i32]) -> Result<usize, Full>
     if out.len() < 2 {
         return Err(Full);
     }
-    out[0] = 2;
+    out[0] = Kind::Set as i32;
     out[1] = 0;
     let mut n: usize = 2;
     let mut rest = s;

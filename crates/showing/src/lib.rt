@@ -5,12 +5,16 @@
 ghost use Rattle.std.specs.Prelude.{◌≤◌, length, IfOk};
 
 use reading::{Draft, Entry, Span};
-use std::io;
 use std::io::{Read, Write};
-use syntax::{Binary, Collection, Connective, Quantifier, Refused, Unary};
+use std::{fmt, io};
+use syntax::Refused;
+use writing::write_refused;
 
 /// The most levels that are shown.
 const LEVELS: usize = 64;
+
+/// The most bytes of a refusal's line: its number has up to three figures, its place up to twenty.
+const REFUSAL_MAX: usize = 35;
 
 /// How a tree is laid out.
 #[derive(Clone, Copy)]
@@ -21,165 +25,78 @@ pub enum Layout {
     Nested,
 }
 
-fn unary(op: Unary) -> &'static [u8] {
-    match op {
-        Unary::Not => b"not",
-        Unary::Negate => b"-",
-        Unary::Abs => b"abs",
-        Unary::Card => b"card",
-        Unary::Len => b"len",
-        Unary::Hd => b"hd",
-        Unary::Tl => b"tl",
-        Unary::Elems => b"elems",
-        Unary::Inds => b"inds",
-    }
-}
+// What a node is. A link of a list is nothing.
+#[derive(Clone, Copy)]
+struct Label(Entry);
 
-fn binary(op: Binary) -> &'static [u8] {
-    match op {
-        Binary::Iff => b"<=>",
-        Binary::Equal => b"=",
-        Binary::NotEqual => b"<>",
-        Binary::Less => b"<",
-        Binary::LessEqual => b"<=",
-        Binary::Greater => b">",
-        Binary::GreaterEqual => b">=",
-        Binary::Subset => b"subset",
-        Binary::ProperSubset => b"psubset",
-        Binary::InSet => b"in set",
-        Binary::NotInSet => b"not in set",
-        Binary::Plus => b"+",
-        Binary::Minus => b"-",
-        Binary::Union => b"union",
-        Binary::Difference => b"\\",
-        Binary::Concat => b"^",
-        Binary::Times => b"*",
-        Binary::Div => b"div",
-        Binary::Rem => b"rem",
-        Binary::Mod => b"mod",
-        Binary::Inter => b"inter",
-        Binary::Apply => b"apply",
-    }
-}
-
-fn connective(op: Connective) -> &'static [u8] {
-    match op {
-        Connective::Implies => b"=>",
-        Connective::Or => b"or",
-        Connective::And => b"and",
-    }
-}
-
-fn truth(value: bool) -> &'static [u8] {
-    if value { b"true" } else { b"false" }
-}
-
-fn quantifier(op: Quantifier) -> &'static [u8] {
-    match op {
-        Quantifier::Forall => b"forall",
-        Quantifier::Exists => b"exists",
-    }
-}
-
-fn collection(kind: Collection) -> &'static [u8] {
-    match kind {
-        Collection::Set => b"set",
-        Collection::Sequence => b"sequence",
-        Collection::Tuple => b"tuple",
-    }
-}
-
-fn comprehension(kind: Collection) -> &'static [u8] {
-    match kind {
-        Collection::Set => b"set of",
-        Collection::Sequence => b"sequence of",
-        Collection::Tuple => b"tuple of",
-    }
-}
-
-fn pattern(kind: Collection) -> &'static [u8] {
-    match kind {
-        Collection::Set => b"pattern set",
-        Collection::Sequence => b"pattern sequence",
-        Collection::Tuple => b"pattern tuple",
-    }
-}
-
-// What a node is.
-fn label(entry: Entry) -> &'static [u8] {
-    match entry {
-        Entry::Empty => b"",
-        Entry::Numeral(_) => b"numeral",
-        Entry::Truth { value, .. } => truth(value),
-        Entry::Name(_) => b"name",
-        Entry::Unary { op, .. } => unary(op),
-        Entry::Binary { op, .. } => binary(op),
-        Entry::Connective { op, .. } => connective(op),
-        Entry::If { .. } => b"if",
-        Entry::Let { .. } => b"let",
-        Entry::LetBe { .. } => b"let be",
-        Entry::Cases { others: None, .. } => b"cases",
-        Entry::Cases {
-            others: Some(_),
-            ..
-        } => b"cases others",
-        Entry::Quantifier { op, .. } => quantifier(op),
-        Entry::Collection { kind, .. } => collection(kind),
-        Entry::Range { .. } => b"range",
-        Entry::Comprehension { kind, .. } => comprehension(kind),
-        Entry::Selection { .. } => b".#",
-        Entry::Item { .. } => b"",
-        Entry::Alternative { .. } => b"",
-        Entry::AnyPattern { .. } => b"pattern -",
-        Entry::NamePattern(_) => b"pattern name",
-        Entry::NumeralPattern(_) => b"pattern numeral",
-        Entry::TruthPattern { value: true, .. } => b"pattern true",
-        Entry::TruthPattern { value: false, .. } => b"pattern false",
-        Entry::PartsPattern { kind, .. } => pattern(kind),
+impl fmt::Display for Label {
+    fn fmt<W: fmt::Write>(&self, f: &mut fmt::Formatter<W>) -> fmt::Result {
+        match self.0 {
+            Entry::Empty | Entry::Item { .. } | Entry::Alternative { .. } => Ok(()),
+            Entry::Numeral(_) => write!(f, "numeral"),
+            Entry::Truth { value, .. } => write!(f, "{value}"),
+            Entry::Name(_) => write!(f, "name"),
+            Entry::Unary { op, .. } => write!(f, "{op}"),
+            Entry::Binary { op, .. } => write!(f, "{op}"),
+            Entry::Connective { op, .. } => write!(f, "{op}"),
+            Entry::If { .. } => write!(f, "if"),
+            Entry::Let { .. } => write!(f, "let"),
+            Entry::LetBe { .. } => write!(f, "let be"),
+            Entry::Cases { others: None, .. } => write!(f, "cases"),
+            Entry::Cases { .. } => write!(f, "cases others"),
+            Entry::Quantifier { op, .. } => write!(f, "{op}"),
+            Entry::Collection { kind, .. } => write!(f, "{kind}"),
+            Entry::Range { .. } => write!(f, "range"),
+            Entry::Comprehension { kind, .. } => write!(f, "{kind} of"),
+            Entry::Selection { .. } => write!(f, ".#"),
+            Entry::AnyPattern { .. } => write!(f, "pattern -"),
+            Entry::NamePattern(_) => write!(f, "pattern name"),
+            Entry::NumeralPattern(_) => write!(f, "pattern numeral"),
+            Entry::TruthPattern { value, .. } => write!(f, "pattern {value}"),
+            Entry::PartsPattern { kind, .. } => write!(f, "pattern {kind}"),
+        }
     }
 }
 
 // The place of a node. A link of a list has none.
 fn place(entry: Entry) -> Option<usize> {
     match entry {
-        Entry::Empty => None,
-        Entry::Numeral(span) => Some(span.place),
-        Entry::Truth { place, .. } => Some(place),
-        Entry::Name(span) => Some(span.place),
-        Entry::Unary { place, .. } => Some(place),
-        Entry::Binary { place, .. } => Some(place),
-        Entry::Connective { place, .. } => Some(place),
-        Entry::If { place, .. } => Some(place),
-        Entry::Let { place, .. } => Some(place),
-        Entry::LetBe { place, .. } => Some(place),
-        Entry::Cases { place, .. } => Some(place),
-        Entry::Quantifier { place, .. } => Some(place),
-        Entry::Collection { place, .. } => Some(place),
-        Entry::Range { place, .. } => Some(place),
-        Entry::Comprehension { place, .. } => Some(place),
-        Entry::Selection { place, .. } => Some(place),
-        Entry::Item { .. } => None,
-        Entry::Alternative { .. } => None,
-        Entry::AnyPattern { place } => Some(place),
-        Entry::NamePattern(span) => Some(span.place),
-        Entry::NumeralPattern(span) => Some(span.place),
-        Entry::TruthPattern { place, .. } => Some(place),
-        Entry::PartsPattern { place, .. } => Some(place),
+        Entry::Empty | Entry::Item { .. } | Entry::Alternative { .. } => None,
+        Entry::Numeral(span)
+        | Entry::Name(span)
+        | Entry::NamePattern(span)
+        | Entry::NumeralPattern(span) => Some(span.place),
+        Entry::Truth { place, .. }
+        | Entry::Unary { place, .. }
+        | Entry::Binary { place, .. }
+        | Entry::Connective { place, .. }
+        | Entry::If { place, .. }
+        | Entry::Let { place, .. }
+        | Entry::LetBe { place, .. }
+        | Entry::Cases { place, .. }
+        | Entry::Quantifier { place, .. }
+        | Entry::Collection { place, .. }
+        | Entry::Range { place, .. }
+        | Entry::Comprehension { place, .. }
+        | Entry::Selection { place, .. }
+        | Entry::AnyPattern { place }
+        | Entry::TruthPattern { place, .. }
+        | Entry::PartsPattern { place, .. } => Some(place),
     }
 }
 
 // The name or numeral that a node has.
 fn spelling(entry: Entry) -> Option<Span> {
     match entry {
-        Entry::Numeral(span) => Some(span),
-        Entry::Name(span) => Some(span),
-        Entry::Let { name, .. } => Some(name),
-        Entry::LetBe { name, .. } => Some(name),
-        Entry::Quantifier { name, .. } => Some(name),
-        Entry::Comprehension { name, .. } => Some(name),
-        Entry::Selection { part, .. } => Some(part),
-        Entry::NamePattern(span) => Some(span),
-        Entry::NumeralPattern(span) => Some(span),
+        Entry::Numeral(span)
+        | Entry::Name(span)
+        | Entry::NamePattern(span)
+        | Entry::NumeralPattern(span)
+        | Entry::Let { name: span, .. }
+        | Entry::LetBe { name: span, .. }
+        | Entry::Quantifier { name: span, .. }
+        | Entry::Comprehension { name: span, .. }
+        | Entry::Selection { part: span, .. } => Some(span),
         _ => None,
     }
 }
@@ -188,8 +105,9 @@ fn spelling(entry: Entry) -> Option<Span> {
 fn parts(entry: Entry) -> [Option<usize>; 3] {
     match entry {
         Entry::Unary { operand, .. } => [Some(operand), None, None],
-        Entry::Binary { left, right, .. } => [Some(left), Some(right), None],
-        Entry::Connective { left, right, .. } => [Some(left), Some(right), None],
+        Entry::Binary { left, right, .. } | Entry::Connective { left, right, .. } => {
+            [Some(left), Some(right), None]
+        }
         Entry::If {
             test,
             then,
@@ -210,7 +128,7 @@ fn parts(entry: Entry) -> [Option<usize>; 3] {
             ..
         } => [Some(subject), Some(first), others],
         Entry::Quantifier { set, body, .. } => [Some(set), Some(body), None],
-        Entry::Collection { first, .. } => [first, None, None],
+        Entry::Collection { first, .. } | Entry::PartsPattern { first, .. } => [first, None, None],
         Entry::Range { start, end, .. } => [Some(start), Some(end), None],
         Entry::Comprehension {
             member,
@@ -225,122 +143,119 @@ fn parts(entry: Entry) -> [Option<usize>; 3] {
             right,
             next,
         } => [Some(pattern), Some(right), next],
-        Entry::PartsPattern { first, .. } => [first, None, None],
         _ => [None, None, None],
     }
 }
 
-// The blanks in front of a node.
-fn indent(rt: &HostRuntime, layout: Layout, level: usize) -> io::Result<()> {
-    match layout {
-        Layout::Lines => {
-            for _ in 0..level {
-                print!(rt; "  ")?;
-            }
-            Ok(())
-        }
-        Layout::Nested => {
-            if level > 0 {
-                print!(rt; " ")?;
-            }
-            Ok(())
-        }
-    }
-}
-
-// In place of a node that is too deep.
-fn cut(rt: &HostRuntime, layout: Layout, level: usize) -> io::Result<()> {
-    indent(rt, layout, level)?;
-    match layout {
-        Layout::Lines => println!(rt; "..."),
-        Layout::Nested => print!(rt; "..."),
-    }
-}
-
-// The line of a node, without its parts.
-fn head(rt: &HostRuntime, text: &[u8], entry: Entry, place: usize) -> io::Result<()> {
-    let mut output = rt.stdout();
-    print!(rt; "{place} ")?;
-    output.write_all(label(entry))?;
-    if let Some(span) = spelling(entry) {
-        if let Some(spelling) = text.get(span.place..span.place.saturating_add(span.len)) {
-            print!(rt; " ")?;
-            output.write_all(spelling)?;
-        }
-    }
-    Ok(())
-}
-
-// A node and its parts; of a list, all its members. At most `left` calls deep.
-fn node(
-    rt: &HostRuntime,
-    draft: &Draft<'_>,
+// Writes the tree of a draft.
+#[derive(Drop)]
+struct TreeWriter<'d, W> {
+    draft: &'d Draft<'d>,
     layout: Layout,
-    at: usize,
-    level: usize,
-    left: usize,
-) -> io::Result<()> {
-    let entries = draft.entries();
-    if left == 0 || at >= entries.len() {
-        return Ok(());
+    out: W,
+}
+
+impl<'d, W: Write> TreeWriter<'d, W> {
+    // The blanks in front of a node.
+    fn indent(&mut self, level: usize) -> io::Result<()> {
+        match self.layout {
+            Layout::Lines => {
+                for _ in 0..level {
+                    write!(self.out, "  ")?;
+                }
+                Ok(())
+            }
+            Layout::Nested if level > 0 => write!(self.out, " "),
+            Layout::Nested => Ok(()),
+        }
     }
-    let entry = entries[at];
-    let Some(place) = place(entry) else {
-        for part in parts(entry) {
-            if let Some(part) = part {
-                node(rt, draft, layout, part, level, left - 1)?;
+
+    // In place of a node that is too deep.
+    fn cut(&mut self, level: usize) -> io::Result<()> {
+        self.indent(level)?;
+        match self.layout {
+            Layout::Lines => writeln!(self.out, "..."),
+            Layout::Nested => write!(self.out, "..."),
+        }
+    }
+
+    // The line of a node, without its parts.
+    fn head(&mut self, entry: Entry, place: usize) -> io::Result<()> {
+        let label = Label(entry);
+        write!(self.out, "{place} {label}")?;
+        if let Some(Span { place, len }) = spelling(entry) {
+            if let Some(spelling) = self.draft.text().get(place..place.saturating_add(len)) {
+                write!(self.out, " ")?;
+                self.out.write_all(spelling)?;
             }
         }
-        return Ok(());
-    };
-    if level >= LEVELS {
-        return cut(rt, layout, level);
+        Ok(())
     }
-    indent(rt, layout, level)?;
-    if let Layout::Nested = layout {
-        print!(rt; "(")?;
-    }
-    head(rt, draft.text(), entry, place)?;
-    if let Layout::Lines = layout {
-        println!(rt; "")?;
-    }
-    for part in parts(entry) {
-        if let Some(part) = part {
-            node(rt, draft, layout, part, level + 1, left - 1)?;
+
+    // A node and its parts; of a list, all its members. Goes at most `left` entries deeper.
+    #[cycle(nodes)]
+    fn node(&mut self, at: usize, level: usize, left: usize) -> io::Result<()> {
+        let Some(&entry) = self.draft.entries().get(at) else {
+            return Ok(());
+        };
+        let Some(place) = place(entry) else {
+            return self.parts(entry, level, left);
+        };
+        if level >= LEVELS {
+            return self.cut(level);
+        }
+        self.indent(level)?;
+        match self.layout {
+            Layout::Lines => {
+                self.head(entry, place)?;
+                writeln!(self.out)?;
+                self.parts(entry, level + 1, left)
+            }
+            Layout::Nested => {
+                write!(self.out, "(")?;
+                self.head(entry, place)?;
+                self.parts(entry, level + 1, left)?;
+                write!(self.out, ")")
+            }
         }
     }
-    if let Layout::Nested = layout {
-        print!(rt; ")")?;
+
+    // The parts of an entry. Goes at most `left` entries deeper.
+    #[cycle(nodes)]
+    fn parts(&mut self, entry: Entry, level: usize, left: usize) -> io::Result<()> {
+        if left > 0 {
+            for part in parts(entry).into_iter().flatten() {
+                self.node(part, level, left - 1)?;
+            }
+        }
+        Ok(())
     }
-    Ok(())
 }
 
 /// Writes the tree of a draft: for each node its place, what it is, the name or numeral that it has, and its parts.
 pub fn show(rt: &HostRuntime, draft: &Draft<'_>, layout: Layout) -> io::Result<()> {
-    node(rt, draft, layout, draft.root(), 0, draft.entries().len())
+    let mut tree = TreeWriter {
+        draft,
+        layout,
+        out: rt.stdout(),
+    };
+    tree.node(draft.root(), 0, draft.entries().len())
 }
 
 /// Fills the buffer from standard input as far as there is input, and says how many bytes came.
 pub fn read_text(rt: &HostRuntime, buffer: &mut [u8]) -> io::Result<usize>
     ensures { IfOk result (λ n. n ≤ length buffer.old) }
 {
-    let mut input = rt.stdin();
-    let mut n = 0;
-    while n < buffer.len() {
-        let more = input.read(&mut buffer[n..])?;
-        if more == 0 {
-            break;
-        }
-        n += more;
-    }
-    Ok(n)
+    let room = buffer.len();
+    let mut rest = buffer;
+    io::copy(&mut rt.stdin().take(room as u64), &mut rest)?;
+    // No clause of the library says that `rest` only becomes shorter.
+    Ok(room.saturating_sub(rest.len()))
 }
 
 /// Writes a refusal.
 pub fn write_refusal(rt: &HostRuntime, refused: Refused) -> io::Result<()> {
-    let number = refused.number;
-    match refused.place {
-        Some(place) => print!(rt; "refused {number} at {place}"),
-        None => print!(rt; "refused {number}"),
-    }
+    let mut line = [0; REFUSAL_MAX];
+    let len = write_refused(refused, &mut line).map_err(|_| io::ErrorKind::WriteZero)?;
+    rt.stdout().write_all(&line[..len])
 }

@@ -1,2 +1,4 @@
 pub mod Tree
 pub mod Names
+pub mod Examples
+pub mod Printed

@@ -2,6 +2,8 @@
 
 #![tactic(auto)]
 
+mod printed;
+
 /// A refusal as it is told: its number, and its place where it has one.
 #[derive(Clone, Copy, Debug, PartialEq, Eq)]
 pub struct Refused {
@@ -24,7 +26,7 @@ pub enum Unary {
 }
 
 /// Takes two values, the left one first.
-#[derive(Clone, Copy, Debug)]
+#[derive(Clone, Copy, Debug, PartialEq, Eq)]
 pub enum Binary {
     Iff,
     Equal,

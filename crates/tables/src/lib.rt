@@ -8,8 +8,9 @@ mod ops;
 
 pub use ops::Full;
 
-// It has no ghost field, so that it can be moved into other types. Each function is right at every `len`: a table whose `len`
-// passed its slots would count as full.
+// No heap: the slots are lent. It has no ghost field, so that it can be moved into other types, and no `impl Model`: a model would
+// be the lists `items` and `spare` of specs/, by the same `take` and `drop`, and no clause or proof would be shorter. Each function
+// is right at every `len`: a table whose `len` passed its slots would count as full.
 #[derive(Drop)]
 pub struct Table<'a, T> {
     slots: &'a mut [T],

@@ -1,23 +1,11 @@
-ghost use Rattle.std.specs.Prelude.{◌≡◌, ◌+◌, ◌-◌, ◌<◌, ◌≤◌, false, [], ◌∷◌, ◌++◌, length, take, drop, set as replaced, replicate, is_ok, if◌then◌else◌, MatchOption, nat_lt, slice_index_or};
+ghost use Rattle.std.specs.Prelude.{◌≡◌, ◌+◌, ◌<◌, ◌≤◌, false, [], ◌∷◌, ◌++◌, length, drop, set as replaced, replicate, is_ok, if◌then◌else◌, MatchOption, nat_lt, nat_le, slice_index_or};
 ghost use Rattle.tables.specs.Items.{slots as slots_of, items as items_of, spare, room};
 
 use crate::Table;
 
 /// No slot is left.
-#[derive(Clone, Copy, Debug)]
+#[derive(Clone, Copy, Debug, PartialEq, Eq)]
 pub struct Full;
-
-// Writes `x` into every slot from `start` on.
-fn fill<T: Copy>(slots: &mut [T], start: usize, x: T)
-    requires { start ≤ length slots.old }
-    ensures { slots.new ≡ take start slots.old ++ replicate (length slots.old - start) x }
-{
-    let mut i = start;
-    while i < slots.len() {
-        slots[i] = x;
-        i += 1;
-    }
-}
 
 impl<'a, T: Copy> Table<'a, T> {
     /// A table with no items over these slots, which stay as they are.
@@ -68,24 +56,38 @@ impl<'a, T: Copy> Table<'a, T> {
         }
     }
 
+    #[tactic(auto, using(std::proofs::lemmas::Slice::overwrites))]
+    /// Adds `xs` behind the items. Refuses, and leaves the table as it was, where fewer slots are left.
+    pub fn extend_from_slice(&mut self, xs: &[T]) -> Result<(), Full>
+        ensures test { is_ok result ≡ nat_le (length (items_of self.old) + length xs.now) (room self.old) }
+        ensures items { items_of self.new ≡ (if is_ok result then items_of self.old ++ xs.now else items_of self.old) }
+        ensures spare { spare self.new ≡ (if is_ok result then drop (length xs.now) (spare self.old) else spare self.old) }
+        ensures len { length (items_of self.new) ≡ (if is_ok result then length (items_of self.old) + length xs.now else length (items_of self.old)) }
+        ensures room { room self.new ≡ room self.old }
+        ensures same { is_ok result ≡ false → self.new ≡ self.old }
+    {
+        if xs.len() > self.remaining() {
+            return Err(Full);
+        }
+        let start = self.len();
+        let end = start + xs.len();
+        self.slots[start..end].copy_from_slice(xs);
+        self.len = end;
+        Ok(())
+    }
+
     /// The items as a slice.
     pub fn items(&self) -> &[T]
         ensures { result.now ≡ items_of self.now }
     {
-        let n = self.len();
-        &self.slots[0..n]
+        &self.slots[..self.len()]
     }
 
     /// The item at `i`.
     pub fn get(&self, i: usize) -> Option<T>
         ensures { MatchOption result (length (items_of self.now) ≤ i) (λ x. (i < length (items_of self.now)) × (x ≡ slice_index_or (items_of self.now) i x)) }
     {
-        let items = self.items();
-        if i < items.len() {
-            Some(items[i])
-        } else {
-            None
-        }
+        self.items().get(i).copied()
     }
 
     /// Replaces the item at `i`. Says whether there is one, and changes nothing where there is none.
@@ -108,17 +110,18 @@ impl<'a, T: Copy> Table<'a, T> {
         ensures items { items_of self.new ≡ [] }
         ensures slots { slots_of self.new ≡ replicate (room self.old) empty }
     {
-        fill(self.slots, 0, empty);
+        self.slots.fill_with(|| empty);
         self.len = 0;
     }
 
+    #[tactic(auto, using(std::proofs::lemmas::Slice::overwrites))]
     /// Writes `empty` into every slot that is left.
     pub fn blank(&mut self, empty: T)
         ensures items { items_of self.new ≡ items_of self.old }
         ensures spare { spare self.new ≡ replicate (length (spare self.old)) empty }
     {
         let start = self.len();
-        fill(self.slots, start, empty);
+        self.slots[start..].fill_with(|| empty);
     }
 
     /// Gives the slots back.

@@ -12,38 +12,32 @@ const INPUT_MAX: usize = 32768;
 /// The slots of a tree table.
 const SLOTS: usize = 2048;
 
-fn answer<'t>(
-    rt: &HostRuntime,
-    number: usize,
-    text: &'t [u8],
-    slots: &'t mut [Entry],
-) -> io::Result<()> {
+// Writes the number of a text, and its refusal or its tree.
+fn answer(rt: &HostRuntime, number: usize, text: &[u8]) -> io::Result<()> {
     print!(rt; "{number}: ")?;
-    match read(text, slots) {
+    let mut slots = [Entry::Empty; SLOTS];
+    match read(text, &mut slots) {
         Ok(draft) => {
             let shown = show(rt, &draft, Layout::Nested);
             let _ = draft.release();
             shown?;
         }
-        Err((refusal, _)) => write_refusal(rt, refusal.told())?,
+        Err((refusal, _)) => write_refusal(rt, refusal.into())?,
     }
     println!(rt; "")
 }
 
-// Answers each line.
+// Answers each line that ends in a line feed.
 fn answers(rt: &HostRuntime, input: &mut [u8]) -> io::Result<()> {
-    let mut number: usize = 1;
-    let mut start: usize = 0;
-    for i in 0..input.len() {
-        if input[i] == b'\n' {
-            let mut slots = [Entry::Empty; SLOTS];
-            if let Some(text) = input.get(start..i) {
-                answer(rt, number, text, &mut slots)?;
+    let lines = input.split_inclusive_mut(|byte| *byte == b'\n');
+    for (number, line) in (1..).zip(lines) {
+        if let [text @ .., b'\n'] = line {
+            for byte in text.iter_mut() {
+                if *byte == b'~' {
+                    *byte = b'\n';
+                }
             }
-            start = i + 1;
-            number = number.saturating_add(1);
-        } else if input[i] == b'~' {
-            input[i] = b'\n';
+            answer(rt, number, text)?;
         }
     }
     Ok(())
@@ -52,5 +46,5 @@ fn answers(rt: &HostRuntime, input: &mut [u8]) -> io::Result<()> {
 fn main(rt: HostRuntime) -> io::Result<()> {
     let mut input = [0; INPUT_MAX];
     let n = read_text(&rt, &mut input)?;
-    answers(&rt, &mut input[0..n])
+    answers(&rt, &mut input[..n])
 }

@@ -1,15 +1,29 @@
 -- The longest form in front of a text, by the text's first byte.
-use Rattle.std.proofs.Common.{◌≡◌, ℕ, zero, suc, ◌<◌, ◌≤◌, Bool, true, false, not, eqb, List, [], ◌∷◌, length, get_or, take, sym, refl, ap, ◌∙◌, subst, inl, inr, ⊎_elim, le_of_suc-le-suc, not-suc-le-zero, arith}
+use Rattle.std.proofs.Common.{◌≡◌, ℕ, ◌<◌, ◌≤◌, Bool, true, false, not, eqb, List, [], ◌∷◌, length, get_or, take, sym, Bor, Iter, refl, ap, ◌∙◌, subst, inl, inr, ⊎_elim, not-suc-le-zero, arith}
 use Rattle.std.proofs.lemmas.List.{get_or-take, length-take, length-take-le, get_or_past}
+use denote.Param.Members.{Mut}
+use Rattle.std.proofs.iter.Yields.{fronts}
+use Rattle.std.specs.declared.iter.TakeWhile.{TakeWhile}
+use Rattle.std.specs.Fn.{CalledAt}
+use Rattle.std.specs.Iterator.{Drains}
+use Rattle.std.specs.Iterator.Adapters.{take_while_source, take_while_done, take_while_callee, take_while_steps}
+use Rattle.std.specs.List.{prefix_len, list_all}
+use Rattle.std.specs.Slice.Iter.{iter_rest}
+use Rattle.std.proofs.lemmas.Iterator.{YieldsList-from_slice}
+use Rattle.std.proofs.lemmas.Iterator.Consumers.{count_from_yields_List}
+use Rattle.std.proofs.lemmas.Iterator.Search.{YieldsList-from_take_while}
+use Rattle.std.proofs.lemmas.List.Folds.{length-prefix_len}
+use Rattle.std.proofs.lemmas.List.Sums.{prefix_len-le-length, prefix_len_passes, prefix_len_stops, AllPass-from_list_all, list_all-from_AllPass}
+use Rattle.std.proofs.lemmas.List.Elements.{All-from_get_or}
 use Rattle.std.proofs.lemmas.Bool.{and_parts, and_from, or_left, or_right, both_ways, cases_lt, cases_order, cases_Bool, eqb-true, not-false}
 use Rattle.std.proofs.lemmas.Bool.Decides.{nat_tests}
 use Rattle.tokens.specs.declared.Mark.{Mark}
 use Rattle.tokens.specs.declared.Kind.{Kind}
 use Rattle.tokens.specs.declared.Kind.TheVariants as kind
 use Rattle.tokens.specs.Spelling.{spelling}
-use Rattle.tokens.specs.Pieces.{separates, letter, digit, word_byte, every, word, digits, Spells, Formed, Longest, OpensComment, Begins, Bad}
+use Rattle.tokens.specs.Pieces.{separates, letter, digit, word_byte, word, digits, Spells, Formed, Longest, OpensComment, Begins, Bad}
 use Rattle.tokens.specs.Lookup.{Sign, Front, NoSign, LongestSign}
-use Rattle.tokens.specs.Cutting.{Run, NameRule, NoRun, Skipped}
+use Rattle.tokens.specs.Cutting.{NameRule, NoRun, Skipped}
 use Rattle.tokens.proofs.Listed.{first, some, no_digit, is_word}
 
 -- which first bytes exclude each other
@@ -25,14 +39,8 @@ letter_no_separator b h s = grind (arith, nat_tests)
 pub digit_no_separator : (b : ℕ) → digit b ≡ true → separates b ≡ true → ⊥
 digit_no_separator b h s = grind (arith, nat_tests)
 
-pub every_at : (p : ℕ → Bool) (w : List ℕ) (i : ℕ) → i < length w → every p w ≡ true → p (get_or w i 0) ≡ true
-every_at p [] i h e = absurd (not-suc-le-zero h)
-every_at p (b ∷ bs) zero h e = (and_parts _ _ e).0
-every_at p (b ∷ bs) (suc i) h e = every_at p bs i (le_of_suc-le-suc h) (and_parts (p b) _ e).1
-
-every_from : (p : ℕ → Bool) (w : List ℕ) → ((i : ℕ) → i < length w → p (get_or w i 0) ≡ true) → every p w ≡ true
-every_from p [] h = refl
-every_from p (b ∷ bs) h = and_from (p b) _ (h 0 (omega arith)) (every_from p bs (λ i l. h (suc i) (omega arith)))
+every_from : (p : ℕ → Bool) (w : List ℕ) → ((i : ℕ) → i < length w → p (get_or w i 0) ≡ true) → list_all p w ≡ true
+every_from p w h = list_all-from_AllPass p w (All-from_get_or (λ b. p b ≡ true) w 0 h)
 
 -- a word begins with a letter, a numeral with a digit
 pub word_first : (w : List ℕ) → word w ≡ true → letter (first w) ≡ true
@@ -43,19 +51,19 @@ pub digits_first : (w : List ℕ) → digits w ≡ true → digit (first w) ≡ 
 digits_first [] h = h
 digits_first (b ∷ bs) h = (and_parts _ _ h).0
 
-word_every : (w : List ℕ) → word w ≡ true → every word_byte w ≡ true
+word_every : (w : List ℕ) → word w ≡ true → list_all word_byte w ≡ true
 word_every [] h = refl
 word_every (b ∷ bs) h = let p = and_parts (letter b) _ h in and_from (word_byte b) _ (letter_word b p.0) p.1
 
-digits_every : (w : List ℕ) → digits w ≡ true → every digit w ≡ true
+digits_every : (w : List ℕ) → digits w ≡ true → list_all digit w ≡ true
 digits_every [] h = refl
 digits_every (b ∷ bs) h = h
 
-every_word : (w : List ℕ) → letter (first w) ≡ true → every word_byte w ≡ true → word w ≡ true
+every_word : (w : List ℕ) → letter (first w) ≡ true → list_all word_byte w ≡ true → word w ≡ true
 every_word [] h e = h
 every_word (b ∷ bs) h e = and_from (letter b) _ h (and_parts (word_byte b) _ e).1
 
-every_digits : (w : List ℕ) → digit (first w) ≡ true → every digit w ≡ true → digits w ≡ true
+every_digits : (w : List ℕ) → digit (first w) ≡ true → list_all digit w ≡ true → digits w ≡ true
 every_digits [] h e = h
 every_digits (b ∷ bs) h e = e
 
@@ -91,6 +99,25 @@ same_longest {bs} {m} {n} a b =
 pub longest_some : {bs : List ℕ} {n : ℕ} → Longest bs n → 0 < n
 longest_some {bs} {n} l = omega (arith, formed_some (take n bs) l.formed, length-take-le n bs l.within)
 
+-- the first n bytes pass, and the next does not
+pub record Run (p : ℕ → Bool) (bs : List ℕ) (n : ℕ) : Type 0 where
+  pub within : n ≤ length bs
+  pub all : (i : ℕ) → i < n → p (get_or bs i 0) ≡ true
+  pub stops : n < length bs → p (get_or bs n 0) ≡ false
+
+pub run_is : (p : ℕ → Bool) (bs : List ℕ) → Run p bs (prefix_len p bs)
+run_is p bs = record { within = prefix_len-le-length p bs; all = λ i h. prefix_len_passes p bs i 0 h; stops = prefix_len_stops p bs 0 }
+
+-- so many bytes as `take_while` gives
+pub counted : {F : Type 0} {g : Mut F (Bor (Bor ℕ) × Unit {0}) Bool} {s : TakeWhile (Iter ℕ) F} {f : F} {bs : List ℕ} {n : ℕ} (p : ℕ → Bool)
+    → (xs : List (Bor ℕ)) × Drains (take_while_steps fronts g) s xs × (n ≡ length xs)
+    → iter_rest (take_while_source s) ≡ bs → take_while_callee s ≡ f → take_while_done s ≡ false
+    → ((x : Bor ℕ) (b : Bool) (q : F) → CalledAt g f x b q → (q ≡ f) × (b ≡ p x.now))
+    → Run p bs n
+counted {g = g} {s = s} {bs = bs} {n = n} p ran source callee done calls =
+    let e = count_from_yields_List s n ran (YieldsList-from_take_while g p (YieldsList-from_slice bs source) callee done calls) in
+    subst (Run p bs) (sym (e ∙ length-prefix_len p bs)) (run_is p bs)
+
 -- a run whose first byte passes, of a class that takes in every form with that first byte
 module _ (p : ℕ → Bool) (bs : List ℕ) (n : ℕ) (none : p 0 ≡ false) (starts : p (get_or bs 0 0) ≡ true) (r : Run p bs n) where
   text_some : 0 < length bs
@@ -102,10 +129,10 @@ module _ (p : ℕ → Bool) (bs : List ℕ) (n : ℕ) (none : p 0 ≡ false) (st
   front_first : (m : ℕ) → 0 < m → first (take m bs) ≡ get_or bs 0 0
   front_first m h = get_or-take m bs 0 0 h
 
-  pub run_every : every p (take n bs) ≡ true
+  pub run_every : list_all p (take n bs) ≡ true
   run_every = every_from p (take n bs) (λ i h. let lt : i < n = omega (arith, length-take-le n bs r.within) in subst (λ b. p b ≡ true) (sym (get_or-take n bs i 0 lt)) (r.all i lt))
 
-  pub run_longest : Formed (take n bs) → ((w : List ℕ) → first w ≡ get_or bs 0 0 → Formed w → every p w ≡ true) → Longest bs n
+  pub run_longest : Formed (take n bs) → ((w : List ℕ) → first w ≡ get_or bs 0 0 → Formed w → list_all p w ≡ true) → Longest bs n
   run_longest f h = record {
     within = r.within;
     formed = f;
@@ -113,7 +140,7 @@ module _ (p : ℕ → Bool) (bs : List ℕ) (n : ℕ) (none : p 0 ≡ false) (st
         let e = h (take m bs) (front_first m (omega arith)) g in
         let long = length-take-le m bs le in
         let inside : n < length (take m bs) = omega arith in
-        both_ways _ (r.stops (omega arith)) (subst (λ b. p b ≡ true) (get_or-take m bs n 0 lt) (every_at p (take m bs) n inside e));
+        both_ways _ (r.stops (omega arith)) (subst (λ b. p b ≡ true) (get_or-take m bs n 0 lt) (AllPass-from_list_all p (take m bs) e n 0 inside));
   }
 
 -- no comment opens with another byte than `-`

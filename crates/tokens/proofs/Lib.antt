@@ -1,5 +1,6 @@
 pub mod Listed
 pub mod Forms
+pub mod Lookups
 pub mod Turns
 pub mod Unique
 pub mod Scan

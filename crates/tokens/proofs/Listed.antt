@@ -1,6 +1,8 @@
 -- What holds of every reserved word and sign is shown once, by a test over their list.
-use Rattle.std.proofs.Common.{◌≡◌, ℕ, zero, suc, ◌<◌, ◌≤◌, Bool, true, false, cond, not, ◌&&◌, ◌||◌, eqb, ltb, leb, List, [], ◌∷◌, length, get_or, sym, refl, ap, ◌∙◌, subst, le_refl, le_of_suc-le-suc, not-suc-le-zero}
+use Rattle.std.proofs.Common.{◌≡◌, ℕ, zero, suc, ◌<◌, ◌≤◌, Bool, true, false, not, ◌&&◌, ◌||◌, eqb, ltb, leb, List, [], ◌∷◌, length, get_or, sym, refl, ap, ◌∙◌, subst, le_refl, le_of_suc-le-suc, not-suc-le-zero}
+use Rattle.std.specs.List.{list_all, position_or_len}
 use Rattle.std.specs.Str.{bytes_eq}
+use Rattle.std.proofs.lemmas.List.Sums.{AllPass-from_list_all, passes_at_first}
 use Rattle.std.proofs.lemmas.Bool.{and_parts, not-true, eqb-true, leb-true, ltb-true, both_ways}
 use Rattle.tokens.specs.declared.Mark.{Mark}
 use Rattle.tokens.specs.declared.Mark.TheVariants as mark
@@ -78,16 +80,12 @@ listed mark.Select = refl
 pub same_number : (m n : Mark) → number m ≡ number n → m ≡ n
 same_number m n e = sym (listed m) ∙ ap (λ i. get_or marks i mark.Abs) e ∙ listed n
 
-abbrev all : (Mark → Bool) → List Mark → Bool
-all f [] = true
-all f (m ∷ ms) = f m && all f ms
-
-all_at : (f : Mark → Bool) (ms : List Mark) (i : ℕ) → f mark.Abs ≡ true → all f ms ≡ true → f (get_or ms i mark.Abs) ≡ true
+all_at : (f : Mark → Bool) (ms : List Mark) (i : ℕ) → f mark.Abs ≡ true → list_all f ms ≡ true → f (get_or ms i mark.Abs) ≡ true
 all_at f [] i d h = d
-all_at f (m ∷ ms) zero d h = (and_parts (f m) (all f ms) h).0
-all_at f (m ∷ ms) (suc i) d h = all_at f ms i d (and_parts (f m) (all f ms) h).1
+all_at f (m ∷ ms) zero d h = (and_parts (f m) (list_all f ms) h).0
+all_at f (m ∷ ms) (suc i) d h = all_at f ms i d (and_parts (f m) (list_all f ms) h).1
 
-each : (f : Mark → Bool) → all f marks ≡ true → (m : Mark) → f m ≡ true
+each : (f : Mark → Bool) → list_all f marks ≡ true → (m : Mark) → f m ≡ true
 each f h m = subst (λ x. f x ≡ true) (listed m) (all_at f marks (number m) (and_parts _ _ h).0 h)
 
 -- where a test must follow from another
@@ -114,25 +112,23 @@ no_separator m = not-true _ (each (λ m. not (separates (first (spelling m)))) r
 pub is_word : (m : Mark) → letter (first (spelling m)) ≡ true → word (spelling m) ≡ true
 is_word m = either _ _ (each (λ m. not (letter (first (spelling m))) || word (spelling m)) refl m)
 
--- the first mark that is spelled so, by its number
-abbrev search_number : List ℕ → List Mark → ℕ
-search_number w [] = 0
-search_number w (m ∷ ms) = cond (bytes_eq (spelling m) w) (number m) (search_number w ms)
+-- the place of the first mark that is spelled so
+abbrev spelled : List ℕ → ℕ
+spelled w = position_or_len (λ m. bytes_eq (spelling m) w) marks
 
-found : (m : Mark) → search_number (spelling m) marks ≡ number m
-found m = eqb-true _ _ (each (λ m. eqb (search_number (spelling m) marks) (number m)) refl m)
+found : (m : Mark) → spelled (spelling m) ≡ number m
+found m = eqb-true _ _ (each (λ m. eqb (spelled (spelling m)) (number m)) refl m)
 
 -- no two are spelled alike
 pub same_spelling : (m n : Mark) → spelling m ≡ spelling n → m ≡ n
-same_spelling m n e = same_number m n (sym (found m) ∙ ap (λ w. search_number w marks) e ∙ found n)
+same_spelling m n e = same_number m n (sym (found m) ∙ ap spelled e ∙ found n)
 
 -- where the mark of this number stands
 abbrev place : ℕ → List Mark → ℕ
-place n [] = 0
-place n (m ∷ ms) = cond (eqb (number m) n) 0 (suc (place n ms))
+place n ms = position_or_len (λ m. eqb (number m) n) ms
 
 abbrev stands : List Mark → Mark → Bool
-stands ms m = ltb (place (number m) ms) (length ms) && eqb (number (get_or ms (place (number m) ms) mark.Abs)) (number m)
+stands ms m = ltb (place (number m) ms) (length ms)
 
 pub record At (ms : List Mark) (m : Mark) : Type 0 where
   pub index : ℕ
@@ -141,8 +137,8 @@ pub record At (ms : List Mark) (m : Mark) : Type 0 where
 
 stands_at : (ms : List Mark) (m : Mark) → stands ms m ≡ true → At ms m
 stands_at ms m h =
-    let p = and_parts _ _ h in
-    record { index = place (number m) ms; inside = ltb-true _ _ p.0; is = same_number _ _ (eqb-true _ _ p.1) }
+    let lt = ltb-true _ _ h in
+    record { index = place (number m) ms; inside = lt; is = same_number _ _ (eqb-true _ _ (passes_at_first (λ n. eqb (number n) (number m)) ms mark.Abs lt)) }
 
 -- a reserved word stands among those of its length
 pub word_listed : (m : Mark) → word (spelling m) ≡ true → At (of_length (length (spelling m))) m
@@ -153,21 +149,16 @@ pub sign_listed : (m : Mark) → word (spelling m) ≡ false → At (of_first (f
 sign_listed m w = stands_at _ m (otherwise _ _ (each (λ m. word (spelling m) || stands (of_first (first (spelling m))) m) refl m) w)
 
 -- none is longer than one before it
-abbrev descends : List Mark → Bool
+abbrev pub descends : List Mark → Bool
 descends [] = true
-descends (m ∷ ms) = all (λ n. leb (length (spelling n)) (length (spelling m))) ms && descends ms
+descends (m ∷ ms) = list_all (λ n. leb (length (spelling n)) (length (spelling m))) ms && descends ms
 
 pub signs_descend : (m : Mark) → descends (of_first (first (spelling m))) ≡ true
 signs_descend m = each (λ m. descends (of_first (first (spelling m)))) refl m
 
-all_in : (f : Mark → Bool) (ms : List Mark) (i : ℕ) → i < length ms → all f ms ≡ true → f (get_or ms i mark.Abs) ≡ true
-all_in f [] i h a = absurd (not-suc-le-zero h)
-all_in f (m ∷ ms) zero h a = (and_parts _ _ a).0
-all_in f (m ∷ ms) (suc i) h a = all_in f ms i (le_of_suc-le-suc h) (and_parts (f m) _ a).1
-
 pub descends_at : (ms : List Mark) (i j : ℕ) → descends ms ≡ true → i ≤ j → j < length ms → length (spelling (get_or ms j mark.Abs)) ≤ length (spelling (get_or ms i mark.Abs))
 descends_at [] i j d h l = absurd (not-suc-le-zero l)
 descends_at (m ∷ ms) zero zero d h l = le_refl _
-descends_at (m ∷ ms) zero (suc j) d h l = leb-true _ _ (all_in (λ n. leb (length (spelling n)) (length (spelling m))) ms j (le_of_suc-le-suc l) (and_parts (all (λ n. leb (length (spelling n)) (length (spelling m))) ms) _ d).0)
+descends_at (m ∷ ms) zero (suc j) d h l = leb-true _ _ (AllPass-from_list_all (λ n. leb (length (spelling n)) (length (spelling m))) ms (and_parts (list_all (λ n. leb (length (spelling n)) (length (spelling m))) ms) _ d).0 j mark.Abs (le_of_suc-le-suc l))
 descends_at (m ∷ ms) (suc i) zero d h l = absurd (not-suc-le-zero h)
-descends_at (m ∷ ms) (suc i) (suc j) d h l = descends_at ms i j (and_parts (all (λ n. leb (length (spelling n)) (length (spelling m))) ms) _ d).1 (le_of_suc-le-suc h) (le_of_suc-le-suc l)
+descends_at (m ∷ ms) (suc i) (suc j) d h l = descends_at ms i j (and_parts (list_all (λ n. leb (length (spelling n)) (length (spelling m))) ms) _ d).1 (le_of_suc-le-suc h) (le_of_suc-le-suc l)

@@ -1,15 +1,15 @@
 -- What one turn of the tokeniser keeps.
-use Rattle.std.proofs.Common.{◌≡◌, ℕ, ◌+◌, ◌<◌, ◌≤◌, true, List, [], ◌∷◌, ◌++◌, length, get_or, drop, Some, None, Option, Result, sym, refl, ap, ◌∙◌, subst, inl, inr, ⊎_elim, append_assoc, append-nil, arith, length-append, length-drop}
-use Rattle.std.proofs.lemmas.List.{drop_more, drop-drop, drop_all}
-use Rattle.std.proofs.lemmas.Bool.{cases_lt}
+use Rattle.std.proofs.Common.{◌≡◌, ℕ, ◌+◌, ◌<◌, ◌≤◌, Bool, true, nat_lt, List, [], ◌∷◌, ◌++◌, length, get_or, drop, Some, None, Option, Result, sym, refl, ap, ◌∙◌, subst, inl, inr, append_assoc, append-nil, arith, length-append, length-drop}
+use Rattle.std.proofs.lemmas.List.{drop_more, drop-drop, drop_all, length-take}
+use Rattle.std.proofs.lemmas.Bool.{lt-ltb}
 use Rattle.tables.specs.declared.Table.{Table}
-use Rattle.tables.specs.Items.{items, spare}
+use Rattle.tables.specs.Items.{items, spare, room}
 use Rattle.tokens.specs.declared.Kind.{Kind}
 use Rattle.tokens.specs.declared.Token.{Token}
 use Rattle.tokens.specs.Pieces.{separates, token, Begins, Bad, Cut, at_end, at_separator, at_comment, at_token, at_bad}
 use Rattle.tokens.specs.declared.Refusal.{Refusal}
 use Rattle.tokens.specs.Cutting.{Skipped, Answers, Tokenised}
-use Rattle.tokens.proofs.Forms.{longest_some, opens_first}
+use Rattle.tokens.proofs.Forms.{longest_some}
 use Rattle.tokens.proofs.Unique.{one_cutting}
 
 -- the tokens before the place n, whatever follows: t was the table, and t' is
@@ -53,6 +53,10 @@ module _ {text : List ℕ} {t t' : Table Token} {n : ℕ} (now : Turn text t t' 
   pub slot : length text ≤ length (spare t) → 0 < length (spare t')
   slot fits = subst (λ us. 0 < length us) (sym now.rest) (omega (arith, length-drop (length now.tokens) (spare t), now.few))
 
+  -- so a push is accepted
+  pub fits : length text ≤ length (spare t) → (r : Bool) → r ≡ nat_lt (length (items t')) (room t') → r ≡ true
+  fits h r e = e ∙ lt-ltb _ _ (omega (arith, slot h, length-take t'.len t'.slots.now, length-drop t'.len t'.slots.now))
+
   pub taken : {t'' : Table Token} (kind : Kind) (k : ℕ) → Begins kind (drop n text) k → items t'' ≡ items t' ++ token kind n k ∷ [] → spare t'' ≡ drop 1 (spare t') → Turn text t t'' (n + k)
   taken {t''} kind k b added rest =
       let some = longest_some b.longest in
@@ -72,14 +76,6 @@ module _ {text : List ℕ} {t t' : Table Token} {n : ℕ} (now : Turn text t t' 
 pub finished : {text : List ℕ} {t t' : Table Token} {n : ℕ} (now : Turn text t t' n) → length text ≤ n → Cut 0 text now.tokens None
 finished {text} {n = n} now le =
     subst (λ us. Cut 0 text us None) (append-nil now.tokens) (now.sofar [] None (subst (λ bs. Cut n bs [] None) (sym (drop_all n text le)) at_end))
-
--- a skipped part has a byte
-pub skip_some : (bs : List ℕ) (k : ℕ) → 0 < length bs → Skipped bs k → 0 < k
-skip_some bs k h (inl (one, some, s)) = omega arith
-skip_some bs k h (inr c) = ⊎_elim (λ p. p) (λ z. let e : k ≡ 0 = omega arith in absurd (dash (subst (λ i. i < length bs → get_or bs i 0 ≡ 10) e c.ends h))) (cases_lt 0 k)
-  where
-    dash : get_or bs 0 0 ≡ 10 → ⊥
-    dash e = omega (arith, opens_first bs c.opens)
 
 -- what the tokeniser ends with, at a bad place or at the end
 pub ends : {text : List ℕ} {t t' : Table Token} {n : ℕ} (now : Turn text t t' n) (bad : Option ℕ) (r : Result (Unit {0}) Refusal) → Cut 0 text now.tokens bad → Answers bad r → length text ≤ length (spare t) → Tokenised text t t' r

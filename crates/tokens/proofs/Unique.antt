@@ -1,13 +1,14 @@
 -- A text has one cutting only.
 use Rattle.std.proofs.Common.{◌≡◌, ℕ, ◌+◌, ◌<◌, true, not, eqb, List, [], ◌∷◌, length, get_or, take, drop, Option, sym, refl, ap, ◌∙◌, subst, inl, inr, ⊎_elim, not-suc-le-zero, arith}
 use Rattle.std.proofs.lemmas.List.{get_or-take, length-take-le}
+use Rattle.std.proofs.lemmas.List.Sums.{AllPass-from_list_all}
 use Rattle.std.proofs.lemmas.Bool.{both_ways, cases_order}
 use Rattle.tokens.specs.declared.Kind.{Kind}
 use Rattle.tokens.specs.declared.Kind.TheVariants as kind
 use Rattle.tokens.specs.declared.Token.{Token}
 use Rattle.tokens.specs.Pieces.{separates, digit, Spells, Formed, Longest, OpensComment, Comment, Begins, token, Cut, at_end, at_separator, at_comment, at_token, at_bad}
 use Rattle.tokens.proofs.Listed.{first, no_digit, no_separator, same_spelling}
-use Rattle.tokens.proofs.Forms.{every_at, word_first, digits_first, letter_no_digit, letter_no_separator, digit_no_separator, longest_some, same_longest, opens_first}
+use Rattle.tokens.proofs.Forms.{word_first, digits_first, letter_no_digit, letter_no_separator, digit_no_separator, longest_some, same_longest, opens_first}
 
 -- one spelling, one kind
 same_kind : (k l : Kind) (w : List ℕ) → Spells k w → Spells l w → k ≡ l
@@ -38,7 +39,7 @@ comment_le {bs} {m} {n} c d lt =
     let long = length-take-le n bs within in
     let feed = c.ends (omega arith) in
     let inside : m < length (take n bs) = omega arith in
-    let ok = every_at (λ b. not (eqb b 10)) (take n bs) m inside d.inside in
+    let ok = AllPass-from_list_all (λ b. not (eqb b 10)) (take n bs) d.inside m 0 inside in
     both_ways _ (ap (λ b. not (eqb b 10)) (get_or-take n bs m 0 lt ∙ feed)) ok
 
 same_comment : {bs : List ℕ} {m n : ℕ} → Comment bs m → Comment bs n → m ≡ n

@@ -1,26 +1,13 @@
 -- What the tokeniser's functions promise.
-use Rattle.std.specs.Prelude.{◌≡◌, ℕ, ◌<◌, ◌≤◌, Bool, true, false, not, ◌⊎◌, List, ◌++◌, length, take, drop, Some, None, Ok, Err, codes, Option, Result, ◌==◌, slice_index}
+use Rattle.std.specs.Prelude.{◌≡◌, ℕ, ◌<◌, ◌≤◌, true, false, ◌⊎◌, List, ◌++◌, length, take, drop, Some, None, Ok, Err, codes, Option, Result, slice_index}
 use Rattle.tables.specs.declared.Table.{Table}
 use Rattle.tables.specs.Items.{items, spare}
 use Rattle.tokens.specs.declared.Token.{Token}
 use Rattle.tokens.specs.declared.Refusal.{Refusal}
-use Rattle.tokens.specs.declared.cut.Class.{Class}
-use Rattle.tokens.specs.declared.cut.Class.TheVariants as class
 use Rattle.tokens.specs.declared.cut.Piece.{Piece}
 use Rattle.tokens.specs.declared.cut.Piece.TheVariants as piece
 use Rattle.tokens.specs.Refusals.{told}
-use Rattle.tokens.specs.Pieces.{letter, digit, word_byte, separates, Comment, Begins, Bad, Cut}
-
-abbrev pub belongs : Class → ℕ → Bool
-belongs class.Word b = word_byte b
-belongs class.Digit b = digit b
-belongs class.Line b = not (b == 10)
-
--- the first n bytes pass, and the next does not
-pub record Run (p : ℕ → Bool) (bs : List ℕ) (n : ℕ) : Type 0 where
-  pub within : n ≤ length bs
-  pub all : (i : ℕ) → i < n → p (slice_index bs i) ≡ true
-  pub stops : n < length bs → p (slice_index bs n) ≡ false
+use Rattle.tokens.specs.Pieces.{letter, digit, separates, Comment, Begins, Bad, Cut}
 
 -- what is asked of a name beyond being a word that is not reserved
 pub record NameRule (w : List ℕ) : Type 0 where
@@ -37,10 +24,10 @@ pub record NoRun (b : ℕ) : Type 0 where
 abbrev pub Skipped : List ℕ → ℕ → Type 0
 Skipped bs n = ((n ≡ 1) × (0 < length bs) × (separates (slice_index bs 0) ≡ true)) ⊎ Comment bs n
 
-abbrev pub IsPiece : List ℕ → Piece → Type 0
-IsPiece bs (piece.Skip n) = Skipped bs n
-IsPiece bs (piece.Token k n) = Begins k bs n
-IsPiece bs piece.Bad = Bad bs
+abbrev pub IsPiece : List ℕ → Option Piece → Type 0
+IsPiece bs (Some (piece.Skip n)) = Skipped bs n
+IsPiece bs (Some (piece.Token k n)) = Begins k bs n
+IsPiece bs None = Bad bs
 
 -- refused with this number and place
 abbrev pub Says : Result (Unit {0}) Refusal → ℕ → Option ℕ → Type 0

@@ -1,5 +1,6 @@
 -- Which tokens a text is cut into, and where it is bad.
 use Rattle.std.specs.Prelude.{◌≡◌, ℕ, ◌+◌, ◌<◌, ◌≤◌, Bool, true, false, not, ◌&&◌, ◌||◌, ◌⊎◌, List, [], ◌∷◌, length, take, drop, Some, None, codes, Option, ◌==◌, ◌≢◌, nat_le, slice_index}
+use Rattle.std.specs.List.{list_all}
 use Rattle.tokens.specs.declared.Mark.{Mark}
 use Rattle.tokens.specs.declared.Kind.{Kind}
 use Rattle.tokens.specs.declared.Kind.TheVariants as kind
@@ -20,19 +21,15 @@ digit b = nat_le 48 b && nat_le b 57
 abbrev pub word_byte : ℕ → Bool
 word_byte b = digit b || letter b || b == 95
 
-abbrev pub every : (ℕ → Bool) → List ℕ → Bool
-every p [] = true
-every p (b ∷ bs) = p b && every p bs
-
 -- a letter, then letters, digits and underscores
 abbrev pub word : List ℕ → Bool
 word [] = false
-word (b ∷ bs) = letter b && every word_byte bs
+word (b ∷ bs) = letter b && list_all word_byte bs
 
 -- one or more digits
 abbrev pub digits : List ℕ → Bool
 digits [] = false
-digits (b ∷ bs) = digit b && every digit bs
+digits (b ∷ bs) = digit b && list_all digit bs
 
 -- a name is a word of at most 32 bytes that is not reserved and does not begin with `mk_`
 pub record Name (w : List ℕ) : Type 0 where
@@ -64,7 +61,7 @@ OpensComment bs = take 2 bs ≡ codes "--"
 pub record Comment (bs : List ℕ) (n : ℕ) : Type 0 where
   pub opens : OpensComment bs
   pub within : n ≤ length bs
-  pub inside : every (λ b. not (b == 10)) (take n bs) ≡ true
+  pub inside : list_all (λ b. not (b == 10)) (take n bs) ≡ true
   pub ends : n < length bs → slice_index bs n ≡ 10
 
 -- the first n bytes are a token of this kind

@@ -1,8 +1,7 @@
 // Cuts a text into tokens.
-ghost use Rattle.std.specs.Prelude.{◌≡◌, ◌<◌, ◌≤◌, true, [], ◌∷◌, ◌++◌, length, drop, MatchBool, slice_index};
-ghost use Rattle.tables.specs.Items.{items, spare};
+ghost use Rattle.std.specs.Prelude.{◌≡◌, ◌<◌, true, length, MatchBool, slice_index};
 ghost use Rattle.tokens.specs.Pieces.{separates, letter};
-ghost use Rattle.tokens.specs.Cutting.{belongs as belongs_to, Run, NameRule, NoRun, IsPiece, Tokenised};
+ghost use Rattle.tokens.specs.Cutting.{NameRule, NoRun, IsPiece, Tokenised};
 
 use crate::{Kind, Refusal, Token, marks};
 use tables::Table;
@@ -10,42 +9,10 @@ use tables::Table;
 // The most bytes that a name may have.
 const NAME_MAX: usize = 32;
 
-// What the bytes of a run have in common.
-#[derive(Clone, Copy)]
-enum Class {
-    Word,
-    Digit,
-    Line,
-}
-
-fn belongs(class: Class, b: u8) -> bool
-    ensures { result ≡ belongs_to class b }
-{
-    match class {
-        Class::Word => b.is_ascii_alphanumeric() || b == b'_',
-        Class::Digit => b.is_ascii_digit(),
-        Class::Line => b != b'\n',
-    }
-}
-
-// How many bytes in front belong to the class.
-fn run(bytes: &[u8], class: Class) -> usize
-    ensures { Run (belongs_to class) bytes.now result }
-{
-    let mut n = 0;
-    while n < bytes.len() && belongs(class, bytes[n]) {
-        n += 1;
-    }
-    n
-}
-
 fn is_separator(b: u8) -> bool
     ensures { result ≡ separates b }
 {
-    match b {
-        b' ' | b'\t' | b'\n' | b'\r' => true,
-        _ => false,
-    }
+    matches!(b, b' ' | b'\t' | b'\n' | b'\r')
 }
 
 // What stands in front of a text.
@@ -54,27 +21,24 @@ enum Piece {
     Skip(usize),
     // a token of so many bytes
     Token(Kind, usize),
-    // none of these
-    Bad,
 }
 
-// A text that begins with a letter: a reserved word, a name, or a name that breaks its rule.
-fn word(bytes: &[u8]) -> Piece
+// A text that begins with a letter: a reserved word or a name. None where a name breaks its rule.
+fn word(bytes: &[u8]) -> Option<Piece>
     requires { letter (slice_index bytes.now 0) ≡ true }
     ensures { IsPiece bytes.now result }
 {
-    let len = run(bytes, Class::Word);
-    let word = &bytes[0..len];
-    match marks::reserved(word) {
-        Some(mark) => Piece::Token(Kind::Mark(mark), len),
-        None => {
-            if obeys_rule(word) {
-                Piece::Token(Kind::Name, len)
-            } else {
-                Piece::Bad
-            }
-        }
-    }
+    let len = bytes
+        .iter()
+        .take_while(|b| b.is_ascii_alphanumeric() || **b == b'_')
+        .count();
+    let word = &bytes[..len];
+    let kind = match marks::reserved(word) {
+        Some(mark) => Kind::Mark(mark),
+        None if obeys_rule(word) => Kind::Name,
+        None => return None,
+    };
+    Some(Piece::Token(kind, len))
 }
 
 // Whether a word that is not reserved may be a name.
@@ -85,43 +49,34 @@ fn obeys_rule(word: &[u8]) -> bool
 }
 
 // A text that begins with neither a letter nor a digit nor a separator: a comment, a sign, or nothing of the language.
-fn sign(bytes: &[u8]) -> Piece
+fn sign(bytes: &[u8]) -> Option<Piece>
     requires { (0 < length bytes.now) × (NoRun (slice_index bytes.now 0)) }
     ensures { IsPiece bytes.now result }
 {
     if bytes.starts_with(b"--") {
-        return Piece::Skip(run(bytes, Class::Line));
+        let len = bytes.iter().take_while(|b| **b != b'\n').count();
+        return Some(Piece::Skip(len));
     }
-    match marks::sign(bytes[0], bytes) {
-        Some(mark) => Piece::Token(Kind::Mark(mark), marks::spelling(mark).len()),
-        None => Piece::Bad,
-    }
+    let mark = marks::sign(bytes)?;
+    Some(Piece::Token(Kind::Mark(mark), marks::spelling(mark).len()))
 }
 
-// What stands in front of a text that is not empty.
-fn front(bytes: &[u8]) -> Piece
+// What stands in front of a text that is not empty. None where nothing of the language begins.
+fn front(bytes: &[u8]) -> Option<Piece>
     requires { 0 < length bytes.now }
     ensures { IsPiece bytes.now result }
 {
     let first = bytes[0];
     if is_separator(first) {
-        Piece::Skip(1)
+        Some(Piece::Skip(1))
     } else if first.is_ascii_alphabetic() {
         word(bytes)
     } else if first.is_ascii_digit() {
-        Piece::Token(Kind::Numeral, run(bytes, Class::Digit))
+        let len = bytes.iter().take_while(|b| b.is_ascii_digit()).count();
+        Some(Piece::Token(Kind::Numeral, len))
     } else {
         sign(bytes)
     }
-}
-
-// Adds a token to a table that has a slot left.
-fn add(tokens: &mut Table<'_, Token>, token: Token)
-    requires { 0 < length (spare tokens.old) }
-    ensures items { items tokens.new ≡ items tokens.old ++ token ∷ [] }
-    ensures spare { spare tokens.new ≡ drop 1 (spare tokens.old) }
-{
-    let _ = tokens.push(token);
 }
 
 /// Cuts `text` into tokens, which are added to the table.
@@ -134,15 +89,16 @@ pub fn tokenise(text: &[u8], tokens: &mut Table<'_, Token>) -> Result<(), Refusa
     if text.len() > tokens.remaining() {
         return Err(Refusal::TooLong);
     }
+    // a `while`, since a turn goes on by as many bytes as its piece has
     let mut place = 0;
     while place < text.len() {
-        match front(&text[place..]) {
+        let piece = front(&text[place..]).ok_or(Refusal::NoToken(place))?;
+        match piece {
             Piece::Skip(len) => place += len,
             Piece::Token(kind, len) => {
-                add(tokens, Token { kind, place, len });
+                tokens.push(Token { kind, place, len }).unwrap();
                 place += len;
             }
-            Piece::Bad => return Err(Refusal::NoToken(place)),
         }
     }
     Ok(())

@@ -13,7 +13,7 @@ pub use marks::spelling;
 use syntax::Refused;
 
 /// A reserved word or a sign.
-#[derive(Clone, Copy, Debug)]
+#[derive(Clone, Copy, Debug, PartialEq, Eq)]
 pub enum Mark {
     // reserved words
     Abs,
@@ -79,7 +79,8 @@ pub enum Mark {
     Select,
 }
 
-#[derive(Clone, Copy, Debug)]
+/// What a token is.
+#[derive(Clone, Copy, Debug, PartialEq, Eq)]
 pub enum Kind {
     Mark(Mark),
     Name,
@@ -87,7 +88,7 @@ pub enum Kind {
 }
 
 /// A token: what it is, the place of its first byte, and how many bytes it has.
-#[derive(Clone, Copy, Debug)]
+#[derive(Clone, Copy, Debug, PartialEq, Eq)]
 pub struct Token {
     pub kind: Kind,
     pub place: usize,
@@ -95,7 +96,7 @@ pub struct Token {
 }
 
 /// Why a text is not cut to its end.
-#[derive(Clone, Copy, Debug)]
+#[derive(Clone, Copy, Debug, PartialEq, Eq)]
 pub enum Refusal {
     /// It has more bytes than the table has slots left.
     TooLong,
@@ -103,12 +104,12 @@ pub enum Refusal {
     NoToken(usize),
 }
 
-impl Refusal {
+impl From<Refusal> for Refused {
+    ghost from_gives = { λ refusal refused. refused ≡ told_of refusal };
+
     /// Its number and place.
-    pub fn told(self) -> Refused
-        ensures { result ≡ told_of self }
-    {
-        match self {
+    fn from(refusal: Refusal) -> Refused {
+        match refusal {
             Refusal::TooLong => Refused {
                 number: 1,
                 place: None,

@@ -1,5 +1,5 @@
 // The reserved words and signs.
-ghost use Rattle.std.specs.Prelude.{◌≡◌, true, MatchOption, ◌≢◌, slice_index};
+ghost use Rattle.std.specs.Prelude.{◌≡◌, true, MatchOption, ◌≢◌};
 ghost use Rattle.tokens.specs.Spelling.{spelling as spelling_of};
 ghost use Rattle.tokens.specs.Lookup.{of_length, of_first, NoSign, LongestSign};
 ghost use Rattle.tokens.specs.Pieces.{word as is_word};
@@ -125,12 +125,10 @@ fn of_length(len: usize) -> &'static [Mark]
 pub(crate) fn reserved(word: &[u8]) -> Option<Mark>
     ensures { MatchOption result ((m : Mark) → is_word (spelling_of m) ≡ true → spelling_of m ≢ word.now) (λ m. spelling_of m ≡ word.now) }
 {
-    for mark in of_length(word.len()) {
-        if word == spelling(*mark) {
-            return Some(*mark);
-        }
-    }
-    None
+    of_length(word.len())
+        .iter()
+        .copied()
+        .find(|mark| word == spelling(*mark))
 }
 
 // The signs whose first byte is this, longer ones first.
@@ -161,15 +159,12 @@ fn of_first(first: u8) -> &'static [Mark]
     }
 }
 
-// The longest sign in front of a text that begins with this byte.
-pub(crate) fn sign(first: u8, text: &[u8]) -> Option<Mark>
-    requires { first ≡ slice_index text.now 0 }
+// The longest sign in front of a text.
+pub(crate) fn sign(text: &[u8]) -> Option<Mark>
     ensures { MatchOption result (NoSign text.now) (LongestSign text.now) }
 {
-    for mark in of_first(first) {
-        if text.starts_with(spelling(*mark)) {
-            return Some(*mark);
-        }
-    }
-    None
+    of_first(*text.first()?)
+        .iter()
+        .copied()
+        .find(|mark| text.starts_with(spelling(*mark)))
 }

@@ -1,6 +1,6 @@
 -- Laws of the cells of a value.
 use Rattle.std.proofs.Common.{◌≡◌, ℕ, zero, suc, ◌+◌, ◌-◌, ◌<◌, ◌≤◌, Bool, true, false, List, [], ◌∷◌, ◌++◌, length, get_or, take, drop, ℤ, pos, sym, refl, ap, ◌∙◌, zero-add, arith}
-use Rattle.std.proofs.lemmas.List.{drop_more, length-append, take_at}
+use Rattle.std.proofs.lemmas.List.{drop-drop, length-append, take_at}
 use Rattle.syntax.specs.declared.Collection.{Collection}
 use Rattle.syntax.specs.declared.Collection.TheVariants.{Set, Sequence, Tuple}
 use Rattle.values.specs.Value.{Value, number, truth, many, Values, none, more, code, bit, count, onto, ontos, cells, pack, row, of, within, past, front}
@@ -106,15 +106,15 @@ past_short (suc n) (k ∷ c ∷ xs) p h =
     past_short (within k c + n) xs q g
 
 -- one step of the pass
-pub past_step : (p i m : ℕ) (xs : List ℤ) (d : ℤ) → 0 < p → i + 1 < length xs → m ≡ within (get_or xs i d) (get_or xs (i + 1) d) → past p (drop i xs) ≡ past (p - 1 + m) (drop (i + 2) xs)
-past_step zero i m xs d h l e = let z : ◌≡◌ {A = ℕ} 0 1 = omega arith in cc
-past_step (suc n) i m xs d h l e =
-    let h0 : i < length xs = omega arith in
-    let a = drop_more xs i d h0 in
-    let b = drop_more xs (i + 1) d l in
-    let f : drop (i + 1 + 1) xs ≡ drop (i + 2) xs = ap (λ j. drop j xs) (omega arith) in
-    let g : drop i xs ≡ get_or xs i d ∷ get_or xs (i + 1) d ∷ drop (i + 2) xs = cc in
-    ap (past (suc n)) g ∙ past_eq (drop (i + 2) xs) (let k : within (get_or xs i d) (get_or xs (i + 1) d) + n ≡ suc n - 1 + m = omega (arith, e) in k)
+pub past_step : (p m : ℕ) (xs : List ℤ) (d : ℤ) → 0 < p → 2 ≤ length xs → m ≡ within (get_or xs 0 d) (get_or xs 1 d) → past p xs ≡ past (p - 1 + m) (drop 2 xs)
+past_step zero m xs d h l e = absurd (omega arith)
+past_step (suc n) m [] d h l e = absurd (omega arith)
+past_step (suc n) m (k ∷ []) d h l e = absurd (omega arith)
+past_step (suc n) m (k ∷ c ∷ xs) d h l e = past_eq xs (let f : within k c + n ≡ suc n - 1 + m = omega (arith, e) in f)
+
+-- what is left is a back part of the whole, also past the next pair
+pub back_step : (s rest : List ℤ) → rest ≡ drop (length s - length rest) s → 2 ≤ length rest → length rest ≤ length s → drop 2 rest ≡ drop (length s - (length rest - 2)) s
+back_step s rest e h l = ap (drop 2) e ∙ drop-drop 2 (length s - length rest) s ∙ ap (λ k. drop k s) (let f : length s - length rest + 2 ≡ length s - (length rest - 2) = omega arith in f)
 
 -- a value's cells stand before what follows them
 pub onto_is : (v : Value) (xs : List ℤ) → onto v xs ≡ cells v ++ xs

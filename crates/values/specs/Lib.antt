@@ -1,6 +1,7 @@
 pub mod Value
 pub mod Lawful
 pub mod Sets
+pub mod Kinds
 pub mod Faults
 pub mod Numbers
 pub mod Operators

@@ -1,32 +1,39 @@
 //! Values as cells: pairs of kind and content, one after another.
+//!
+//! A cell may be any `i32`, also where a kind is read or asked for.
 
 #![tactic(auto)]
+
+mod kinds;
 
 ghost use Rattle.std.specs.Prelude.{◌≡◌, ℕ, ◌+◌, ◌-◌, ◌<◌, ◌≤◌, List, [], ◌∷◌, ◌++◌, length, take, drop, ℤ, pos, MatchResult, slice_index_or};
 ghost use Rattle.values.specs.Faults.{number as fault_number};
 ghost use Rattle.values.specs.Value.{within, past, by_cells, front};
 ghost use Rattle.values.specs.Cells.{begins};
+ghost use Rattle.values.specs.declared.Fault.TheVariants.{TooLarge};
 
+pub use kinds::{Kind, NoKind};
 use std::cmp::Ordering;
 use syntax::Collection;
+pub use tables::Full;
 
-/// Why an expression has no value.
+/// Why an expression has no value, with the number by which it is reported.
 #[derive(Clone, Copy, Debug, PartialEq, Eq)]
 pub enum Fault {
     /// a part has the wrong kind
-    WrongKind,
+    WrongKind = 20,
     /// a number leaves the range
-    OutOfRange,
+    OutOfRange = 21,
     /// `div`, `rem` or `mod` by 0
-    DivisionByZero,
+    DivisionByZero = 22,
     /// a value passes 200 cells
-    TooLarge,
+    TooLarge = 23,
     /// no such member
-    OutOfBounds,
+    OutOfBounds = 24,
     /// `let be` has no candidate
-    NoCandidate,
+    NoCandidate = 25,
     /// no case matches
-    NoCase,
+    NoCase = 26,
 }
 
 impl Fault {
@@ -34,15 +41,16 @@ impl Fault {
     pub fn number(self) -> u8
         ensures { result ≡ fault_number self }
     {
-        match self {
-            Fault::WrongKind => 20,
-            Fault::OutOfRange => 21,
-            Fault::DivisionByZero => 22,
-            Fault::TooLarge => 23,
-            Fault::OutOfBounds => 24,
-            Fault::NoCandidate => 25,
-            Fault::NoCase => 26,
-        }
+        self as u8
+    }
+}
+
+// A value for which no room is left passes 200 cells.
+impl From<Full> for Fault {
+    ghost from_gives = { λ _ e. e ≡ TooLarge };
+
+    fn from(_full: Full) -> Fault {
+        Fault::TooLarge
     }
 }
 
@@ -72,13 +80,19 @@ pub fn first(s: &[i32]) -> usize
     ensures inside { result ≤ length s.now }
     ensures some { 0 < length s.now → 0 < result }
 {
-    let mut at: usize = 0;
+    let mut rest = s;
     let mut pending: usize = 1;
-    while at + 1 < s.len() && pending > 0 && pending <= s.len() {
-        pending = pending - 1 + members(s[at], s[at + 1]);
-        at += 2;
+    while let [kind, content, more @ ..] = rest {
+        pending = pending - 1 + members(*kind, *content);
+        if pending == 0 {
+            return s.len() - more.len();
+        }
+        if pending > more.len() {
+            break;
+        }
+        rest = more;
     }
-    if pending == 0 { at } else { s.len() }
+    s.len()
 }
 
 /// The order of two values: the first differing cell decides.
@@ -102,42 +116,40 @@ pub fn split(s: &[i32]) -> (&[i32], &[i32])
 pub fn inner(s: &[i32]) -> &[i32]
     ensures { result.now ≡ drop 2 s.now }
 {
-    if s.len() >= 2 { &s[2..] } else { &[] }
+    s.get(2..).unwrap_or(&[])
 }
 
 /// The first cell: the kind of a value.
 pub fn kind(s: &[i32]) -> i32
     ensures { result ≡ slice_index_or s.now 0 (pos 0) }
 {
-    if s.len() > 0 { s[0] } else { 0 }
+    s.first().copied().unwrap_or(0)
 }
 
 /// The second cell: the content of a number or a truth value, or the count of members.
 pub fn content(s: &[i32]) -> i32
     ensures { result ≡ slice_index_or s.now 1 (pos 0) }
 {
-    if s.len() > 1 { s[1] } else { 0 }
+    s.get(1).copied().unwrap_or(0)
 }
 
 /// Whether an operand is of the kind that is asked for.
 pub fn is(what: Operand, kind: i32) -> bool
     ensures { result ≡ begins what kind }
 {
-    match what {
-        Operand::Any => true,
-        Operand::Number => kind == 0,
-        Operand::Truth => kind == 1,
-        Operand::Many(Collection::Set) => kind == 2,
-        Operand::Many(Collection::Sequence) => kind == 3,
-        Operand::Many(Collection::Tuple) => kind == 4,
-    }
+    let wanted = match what {
+        Operand::Any => return true,
+        Operand::Number => Kind::Number,
+        Operand::Truth => Kind::Truth,
+        Operand::Many(Collection::Set) => Kind::Set,
+        Operand::Many(Collection::Sequence) => Kind::Sequence,
+        Operand::Many(Collection::Tuple) => Kind::Tuple,
+    };
+    kind == wanted as i32
 }
 
-/// No room is left.
-#[derive(Clone, Copy, Debug, PartialEq, Eq)]
-pub struct Full;
-
 /// Writes `piece` behind the first `n` cells of `out`. Says where it ends.
+// The length stands beside the buffer: behind the methods of a `Table` no clause says over which slots it stands, so that nothing could be said of `out`.
 pub fn append(out: &mut [i32], n: usize, piece: &[i32]) -> Result<usize, Full>
     ensures { MatchResult result (λ m. (take m out.new ≡ take n out.old ++ piece.now) × (m ≡ n + length piece.now) × (m ≤ length out.old)) (λ _. length out.old < n + length piece.now) }
 {

@@ -13,12 +13,12 @@ fn main(rt: HostRuntime) -> io::Result<()> {
     let mut buffer = [0; TEXT_MAX + 1];
     let n = read_text(&rt, &mut buffer)?;
     let mut slots = [Entry::Empty; TEXT_MAX];
-    match read(&buffer[0..n], &mut slots) {
+    match read(&buffer[..n], &mut slots) {
         Ok(draft) => {
             let shown = show(&rt, &draft, Layout::Lines);
             let _ = draft.release();
             shown
         }
-        Err((refusal, _)) => write_refusal(&rt, refusal.told()),
+        Err((refusal, _)) => write_refusal(&rt, refusal.into()),
     }
 }

@@ -1,5 +1,4 @@
-mod Digits
-mod Lines
+pub mod Digits
 mod Walk
 mod Bound
 mod Printable

@@ -2,17 +2,19 @@
 
 #![tactic(auto)]
 
-ghost use Rattle.std.specs.Prelude.{◌≡◌, ◌+◌, List, [], ℤ, Err};
+ghost use Rattle.std.specs.Prelude.{◌≡◌, ◌≤◌, List, ◌++◌, length, ℤ, Err};
+ghost use Rattle.arrayvec.specs.ArrayString.{array_string_len};
 ghost use Rattle.values.specs.Value.{Value, Values, cells as cells_of, count as count_of, onto, ontos};
 ghost use Rattle.values.specs.Lawful.{Lawful};
 ghost use Rattle.writing.specs.Written.{written, members as members_of, word as word_of, opening as opening_of, closing as closing_of};
 ghost use Rattle.writing.specs.Heads.{head as head_of, Begins, Follow};
-ghost use Rattle.writing.specs.Lines.{Adds, Writes};
+ghost use Rattle.writing.specs.Lines.{Writes};
 ghost use Rattle.writing.specs.Reports.{fault as fault_line, paused as paused_line, refused as refused_line};
 ghost use Rattle.writing.specs.Laws.{Bounded, Reached, Printable, Distinct};
 ghost use Rattle.writing.specs.Refusals.{told as told_of};
+ghost use Rattle.writing.specs.declared.Unwritten.TheVariants as unwritten;
 
-use crate::line::Line;
+use crate::line::{Line, add_number, add_place, copy_to};
 use syntax::{Collection, Refused};
 use values::Fault;
 
@@ -25,12 +27,12 @@ pub enum Refusal {
     TooLong,
 }
 
-impl Refusal {
-    /// The number by which it is told.
-    pub fn told(self) -> Refused
-        ensures { result ≡ told_of self }
-    {
-        match self {
+/// The number by which it is told.
+impl From<Refusal> for Refused {
+    ghost from_gives = { λ refusal refused. refused ≡ told_of refusal };
+
+    fn from(refusal: Refusal) -> Refused {
+        match refusal {
             Refusal::TooLong => Refused {
                 number: 14,
                 place: None,
@@ -47,10 +49,10 @@ enum Head {
     Many(Collection, usize),
 }
 
-impl Head {
-    fn new(kind: i32, content: i32) -> Head
-        ensures { result ≡ head_of kind content }
-    {
+impl From<(i32, i32)> for Head {
+    ghost from_gives = { λ pair head. head ≡ head_of pair.0 pair.1 };
+
+    fn from((kind, content): (i32, i32)) -> Head {
         match kind {
             1 => Head::Truth(content != 0),
             2 => Head::Many(Collection::Set, values::members(kind, content)),
@@ -61,54 +63,55 @@ impl Head {
     }
 }
 
-fn word(truth: bool) -> &'static [u8]
+fn word(truth: bool) -> &'static str
     ensures { result.now ≡ word_of truth }
 {
-    if truth { b"true" } else { b"false" }
+    if truth { "true" } else { "false" }
 }
 
-fn opening(kind: Collection) -> &'static [u8]
+fn opening(kind: Collection) -> &'static str
     ensures { result.now ≡ opening_of kind }
 {
     match kind {
-        Collection::Set => b"{",
-        Collection::Sequence => b"[",
-        Collection::Tuple => b"mk_(",
+        Collection::Set => "{",
+        Collection::Sequence => "[",
+        Collection::Tuple => "mk_(",
     }
 }
 
-fn closing(kind: Collection) -> &'static [u8]
+fn closing(kind: Collection) -> &'static str
     ensures { result.now ≡ closing_of kind }
 {
     match kind {
-        Collection::Set => b"}",
-        Collection::Sequence => b"]",
-        Collection::Tuple => b")",
+        Collection::Set => "}",
+        Collection::Sequence => "]",
+        Collection::Tuple => ")",
     }
 }
 
 /// Adds the first value of `cells` to the line. Gives what follows it.
 #[cycle(members_value)]
 fn value<'c>(cells: &'c [i32], line: &mut Line) -> &'c [i32]
-    requires { Begins cells.now line.old.len }
-    ensures { (v : Value) (xs : List ℤ) → cells.now ≡ onto v xs → (result.now ≡ xs) × Adds line.old line.new (written v) }
+    requires { Begins cells.now (array_string_len line.old) }
+    ensures shorter { length result.now ≤ length cells.now }
+    ensures written { (v : Value) (xs : List ℤ) → cells.now ≡ onto v xs → (result.now ≡ xs) × (line.new.bytes ≡ line.old.bytes ++ written v) }
 {
     let [kind, content, rest @ ..] = cells else {
         return cells;
     };
-    match Head::new(*kind, *content) {
-        Head::Number(z) => {
-            line.signed(z);
+    match Head::from((*kind, *content)) {
+        Head::Number(number) => {
+            add_number(line, number);
             rest
         }
-        Head::Truth(b) => {
-            line.push(word(b));
+        Head::Truth(truth) => {
+            line.push_str(word(truth));
             rest
         }
-        Head::Many(k, count) => {
-            line.push(opening(k));
+        Head::Many(kind, count) => {
+            line.push_str(opening(kind));
             let after = members(count, rest, line);
-            line.push(closing(k));
+            line.push_str(closing(kind));
             after
         }
     }
@@ -117,15 +120,16 @@ fn value<'c>(cells: &'c [i32], line: &mut Line) -> &'c [i32]
 /// Adds the first `count` values of `cells` to the line, as members. Gives what follows them.
 #[cycle(members_value)]
 fn members<'c>(count: usize, cells: &'c [i32], line: &mut Line) -> &'c [i32]
-    requires { Follow count cells.now line.old.len }
-    ensures { (vs : Values) (xs : List ℤ) → count ≡ count_of vs → cells.now ≡ ontos vs xs → (result.now ≡ xs) × Adds line.old line.new (members_of vs) }
+    requires { Follow count cells.now (array_string_len line.old) }
+    ensures shorter { length result.now ≤ length cells.now }
+    ensures written { (vs : Values) (xs : List ℤ) → count ≡ count_of vs → cells.now ≡ ontos vs xs → (result.now ≡ xs) × (line.new.bytes ≡ line.old.bytes ++ members_of vs) }
 {
     if count == 0 {
         return cells;
     }
     let mut rest = value(cells, line);
     for _ in 1..count {
-        line.push(b", ");
+        line.push_str(", ");
         rest = value(rest, line);
     }
     rest
@@ -140,6 +144,14 @@ pub enum Unwritten {
     Refused(Refusal),
 }
 
+impl From<Refusal> for Unwritten {
+    ghost from_gives = { λ refusal why. why ≡ unwritten.Refused refusal };
+
+    fn from(refusal: Refusal) -> Unwritten {
+        Unwritten::Refused(refusal)
+    }
+}
+
 /// Writes a value to the front of a buffer. Says how long its line is.
 pub fn write_value(cells: &[i32], out: &mut [u8]) -> Result<usize, Unwritten>
     ensures value { (v : Value) → cells.now ≡ cells_of v → Lawful v → Writes (Unwritten.Refused Refusal.TooLong) (written v) out.old result out.new }
@@ -150,21 +162,21 @@ pub fn write_value(cells: &[i32], out: &mut [u8]) -> Result<usize, Unwritten>
     }
     let mut line = Line::new();
     value(cells, &mut line);
-    match line.copy_to(out) {
-        Ok(len) => Ok(len),
-        Err(refusal) => Err(Unwritten::Refused(refusal)),
-    }
+    Ok(copy_to(&line, out)?)
 }
 
+// The next three push piece by piece, without `write!`: of that it is not said when it succeeds, and each line that fits is written.
+
 /// Writes a fault to the front of a buffer. Says how long its line is.
+#[tactic(auto, using(crate::proofs::Digits::twenty_at_most))]
 pub fn write_fault(fault: Fault, place: usize, out: &mut [u8]) -> Result<usize, Refusal>
     ensures { Writes Refusal.TooLong (fault_line fault place) out.old result out.new }
 {
     let mut line = Line::new();
-    line.push(b"fault ");
-    line.number(usize::from(fault.number()));
-    line.at(place);
-    line.copy_to(out)
+    line.push_str("fault ");
+    add_number(&mut line, fault.number());
+    add_place(&mut line, place);
+    copy_to(&line, out)
 }
 
 /// Writes where a machine pauses to the front of a buffer. Says how long the line is.
@@ -172,22 +184,23 @@ pub fn write_paused(place: usize, out: &mut [u8]) -> Result<usize, Refusal>
     ensures { Writes Refusal.TooLong (paused_line place) out.old result out.new }
 {
     let mut line = Line::new();
-    line.push(b"paused");
-    line.at(place);
-    line.copy_to(out)
+    line.push_str("paused");
+    add_place(&mut line, place);
+    copy_to(&line, out)
 }
 
 /// Writes a refusal to the front of a buffer. Says how long its line is.
+#[tactic(auto, using(crate::proofs::Digits::twenty_at_most))]
 pub fn write_refused(refused: Refused, out: &mut [u8]) -> Result<usize, Refusal>
     ensures { Writes Refusal.TooLong (refused_line refused) out.old result out.new }
 {
     let mut line = Line::new();
-    line.push(b"refused ");
-    line.number(usize::from(refused.number));
+    line.push_str("refused ");
+    add_number(&mut line, refused.number);
     if let Some(place) = refused.place {
-        line.at(place);
+        add_place(&mut line, place);
     }
-    line.copy_to(out)
+    copy_to(&line, out)
 }
 
 /// What holds of the lines of lawful values.
@@ -274,8 +287,8 @@ mod tests {
         let mut cells = [0i32; 200];
         cells[0] = 4;
         cells[1] = 99;
-        for i in 1..100 {
-            cells[2 * i + 1] = -2147483647;
+        for pair in cells[2..].chunks_exact_mut(2) {
+            pair[1] = -2147483647;
         }
         assert_eq!(rt; write_value(&cells, &mut [0; 1290]), Ok(1290));
         assert_eq!(rt;
@@ -288,8 +301,8 @@ mod tests {
     #[test]
     fn the_deepest_value(rt: HostRuntime) -> Result<(), Fail> {
         let mut cells = [3i32; 200];
-        for i in 0..99 {
-            cells[2 * i + 1] = 1;
+        for pair in cells.chunks_exact_mut(2) {
+            pair[1] = 1;
         }
         cells[199] = 0;
         assert_eq!(rt; write_value(&cells, &mut [0; 200]), Ok(200));

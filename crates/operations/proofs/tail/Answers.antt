@@ -5,8 +5,8 @@ use Rattle.std.proofs.lemmas.Result.{MatchResult-weaker}
 use Rattle.syntax.specs.declared.Collection.TheVariants.{Sequence}
 use Rattle.values.specs.Value.{Value, cells, of}
 use Rattle.values.specs.Operators.{tail}
-use Rattle.values.specs.Cells.{told, in_cells}
-use Rattle.operations.proofs.Outcomes.{second, made_told, inside_fit, spared_fit}
+use Rattle.values.specs.Cells.{in_cells}
+use Rattle.operations.proofs.Outcomes.{second, made_told}
 use Rattle.operations.proofs.tail.Goals as goal
 
 pub returns-then-content-lt1 : goal.returns-then-content-lt1
@@ -26,17 +26,12 @@ some : (vs : List Value) → 0 < length vs → (v : Value) × (ws : List Value) 
 some [] h = absurd (omega arith)
 some (v ∷ vs) h = (v, vs, refl)
 
-pub returns : goal.returns
-returns c =
-    record {
-      inside = inside_fit c.tail.result c.fit.result (length c.args.out.now) c.fit.ensures c.told-out c.tail.ensures.inside;
-      spared = spared_fit c.tail.result c.fit.result c.args.out.now c.tail.new.out c.fit.ensures;
-      gives = λ vs e.
-          let f : SFits w32 c.content.result = search rules in
-          let g = c.content.ensures ∙ second Sequence vs c.args.a.now e in
-          let t : pos 1 ≤ℤ c.content.result = let u = simp to_z-of_z at c.if-content-lt1.false in omega (arith, ints) in
-          let v = some vs (omega (arith, ints, g)) in
-          let h = c.tail.ensures.made v.0 v.1 (e ∙ ap (λ l. cells (of Sequence l)) v.2) in
-          let l : length c.tail.new.out ≡ 200 = omega (arith, c.told-out, c.tail.auto.out) in
-          ap (λ o. told o c.tail.new.out) c.fit.ensures ∙ made_told c.tail.result c.tail.new.out (of Sequence v.1) l (MatchResult-weaker c.tail.result h (λ _ p. p) (λ _ p. omega (arith, p, c.told-out))) ∙ sym (ap (λ l. in_cells (tail l)) v.2);
-    }
+pub returns-clause-gives : goal.returns-clause-gives
+returns-clause-gives c = λ vs e.
+    let f : SFits w32 c.content.result = search rules in
+    let g = c.content.ensures ∙ second Sequence vs c.args.a.now e in
+    let t : pos 1 ≤ℤ c.content.result = let u = simp to_z-of_z at c.if-content-lt1.false in omega (arith, ints) in
+    let v = some vs (omega (arith, ints, g)) in
+    let h = c.tail.ensures.made v.0 v.1 (e ∙ ap (λ l. cells (of Sequence l)) v.2) in
+    let l : length c.tail.new.out ≡ 200 = omega (arith, c.told-out, c.tail.auto.out) in
+    made_told c.tail.result c.map_err.result c.map_err.ensures.cases c.tail.new.out (of Sequence v.1) l (MatchResult-weaker c.tail.result h (λ _ p. p) (λ _ p. omega (arith, p, c.told-out))) ∙ sym (ap (λ l. in_cells (tail l)) v.2)

@@ -8,7 +8,7 @@ use Rattle.sequences.proofs.numbers.Goals as goal
 pub loop-i-init : goal.loop-i-init
 loop-i-init c =
     let f = c.ranges.a in
-    (simp to_z-of_z (ap (λ l. take 2 c.args.out.now ++ row l) (span_from c.args.a c.args.count)), omega arith, omega arith, omega arith)
+    (simp to_z-of_z (ap (λ l. take 2 c.args.out.now ++ row l) (span_from c.args.a c.args.count)), omega arith, omega arith)
 
 pub loop-i-preserved : goal.loop-i-preserved
 loop-i-preserved c =
@@ -24,5 +24,4 @@ loop-i-preserved c =
       simp to_z-of_z (pair_on _ _ _ _ (row (span (a +ℤ pos (i + 1)) (n - (i + 1)))) (a +ℤ pos i) p (ap row (span_step a i n c.loop-i-test.true)) inv),
       omega (arith, h.1),
       omega (arith, h.2, c.append.auto.out),
-      omega arith,
     )

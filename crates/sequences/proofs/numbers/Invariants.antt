@@ -5,7 +5,4 @@ use Rattle.sequences.proofs.numbers.Given as goal
 
 abbrev pub invariant-loop-i : goal.invariant-loop-i
 invariant-loop-i l =
-    (take l.at l.out ++ row (span (l.a +ℤ pos l.i) (l.count - l.i)) ≡ take 2 l.initial.out ++ row (span l.a l.count)) × (l.at ≡ 2 + 2 * l.i) × (l.at ≤ length l.out) × (l.i ≤ l.count)
-
-abbrev pub decreases-loop-i : goal.decreases-loop-i
-decreases-loop-i l = l.count - l.i
+    (take l.at l.out ++ row (span (l.a +ℤ pos l.i) (l.count - l.i)) ≡ take 2 l.initial.out ++ row (span l.a l.count)) × (l.at ≡ 2 + 2 * l.i) × (l.at ≤ length l.out)

@@ -15,15 +15,15 @@ returns-then-n-lt2 c =
       unchanged = refl;
     }
 
-pub returns-in-Found : goal.returns-in-Found
-returns-in-Found c =
+pub returns-in_default : goal.returns-in_default
+returns-in_default c =
     record {
       inside = omega arith;
       made = λ k us v es en ln.
           let s = c.args.s.now in
           let p = pair k us v s c.args.n es en in
           let f : SFits w32 (get_or s 0 (pos 0)) = search rules in
-          let q = simp to_z-of_z at c.in-Found.ensures.placed in
+          let q = simp to_z-of_z at c.in_default.ensures.placed in
           let h = q k us v p.first p.members p.behind in
           (p.front ∙ ap (λ l. cells (of k l)) (sym h), ln);
       unchanged = tt;
@@ -38,7 +38,7 @@ returns-then-s-gt200 c =
           let p = pair k us v s c.args.n es en in
           let f : SFits w32 (get_or s 0 (pos 0)) = search rules in
           let g : SFits w32 (get_or s 1 (pos 0)) = omega (arith, ints, fewer us, p.long, p.second) in
-          let q = simp to_z-of_z at c.in-At.ensures.placed in
+          let q = simp to_z-of_z at c.in-Some.ensures.placed in
           let h = q k us v p.first p.members p.behind in
           let l = grown_long k us h.0 h.1 (grown k us v) v s c.args.n p h.2 h.4 in
           elim c.then-s-gt200.branch [
@@ -48,8 +48,8 @@ returns-then-s-gt200 c =
       unchanged = refl;
     }
 
-pub returns-else-s-gt200-2 : goal.returns-else-s-gt200-2
-returns-else-s-gt200-2 c =
+pub returns : goal.returns
+returns c =
     let s = c.args.s.now in
     record {
       inside = omega (arith, simp length-set at c.turn.auto.s);
@@ -57,7 +57,7 @@ returns-else-s-gt200-2 c =
           let p = pair k us v s c.args.n es en in
           let f : SFits w32 (get_or s 0 (pos 0)) = search rules in
           let g : SFits w32 (get_or s 1 (pos 0)) = search rules in
-          let q = simp to_z-of_z at c.in-At.ensures.placed in
+          let q = simp to_z-of_z at c.in-Some.ensures.placed in
           let h = q k us v p.first p.members p.behind in
           let z : get_or s 1 (pos 0) +ℤ pos 1 ≡ pos (length us + 1) = omega (arith, ints, p.second) in
           let x : SFits w32 (get_or s 1 (pos 0) +ℤ pos 1) = omega (arith, ints, fewer us, p.long, p.second) in

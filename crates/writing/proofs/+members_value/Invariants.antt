@@ -9,4 +9,4 @@ abbrev pub decreases-value : goal.decreases-value
 decreases-value l = 2 * length l.cells.now
 
 abbrev pub invariant-members-loop : goal.invariant-members-loop
-invariant-members-loop l = Going l.cells l.initial.rest l.rest l.initial.line l.line l.count l.counter
+invariant-members-loop l = Going l.cells l.initial.rest l.rest l.initial.line.bytes l.line.bytes l.count l.counter

@@ -7,11 +7,11 @@ use Rattle.reading.proofs.call.read.Goals as goal
 
 pub returns-in-Ok : goal.returns-in-Ok
 returns-in-Ok c =
-    let f = c.in-Ok.ensures in
-    let t = c.build.new.table in
+    let f = rw c.in-Ok.is at c.build-root.ensures in
+    let t = c.build-root.result.1 in
     let t' = c.blank.new.self in
     let whole = sym (take-append-drop t'.len t'.slots.now) in
-    let left : length (spare t) ≡ length c.args.slots.now - length (items t) = omega (arith, length-drop t.len t.slots.now, length-take t.len t.slots.now, f.1.1.1.1.0, c.make-table.ensures.room) in
+    let left : length (spare t) ≡ length c.args.slots.now - length (items t) = omega (arith, length-drop t.len t.slots.now, length-take t.len t.slots.now, f.1.1.1.1.0, c.make.ensures.room) in
     record {
       short = c.if-text-gt-TEXT_MAX.false;
       large = c.if-slots-lt-TEXT_MAX.false;

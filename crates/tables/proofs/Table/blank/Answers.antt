@@ -1,14 +1,12 @@
-use Rattle.std.proofs.Common.{◌≡◌, ◌-◌, ◌++◌, length, take, drop, replicate, ap, ◌∙◌, arith}
-use Rattle.std.proofs.lemmas.List.{length-take}
-use Rattle.tables.proofs.Front.{rewritten, rewritten_front, rewritten_rest}
+use Rattle.std.proofs.Common.{◌≡◌, length, drop, replicate, ap, ◌∙◌, rules, arith}
+use Rattle.std.proofs.lemmas.Grind.{common_steps}
+use Rattle.tables.proofs.Front.{written, behind}
 use Rattle.tables.proofs.Table.blank.Goals as goal
 
-pub fill-requires : goal.fill-requires
-fill-requires g c = omega (arith, c.len-start.ensures, length-take c.args.self.now.len c.args.self.now.slots.now)
-
-pub returns : goal.returns
-returns g c =
+pub returns-clause-spare : goal.returns-clause-spare
+returns-clause-spare g c =
     let n = c.args.self.now.len in
     let xs = c.args.self.now.slots.now in
-    let e : c.fill.new.slots ≡ rewritten n xs c.args.empty = c.fill.ensures ∙ ap (λ k. take k xs ++ replicate (length xs - k) c.args.empty) c.len-start.ensures in
-    record { items = ap (take n) e ∙ rewritten_front n xs c.args.empty; spare = ap (drop n) e ∙ rewritten_rest n xs c.args.empty }
+    let ys = c.fill_with.new.self in
+    let long : length ys ≡ length (drop n xs) = grind (arith, common_steps) in
+    behind n c.len-start.result xs ys c.len-start.ensures long ∙ written _ _ c.args.empty (λ y f s. search rules) ys _ c.fill_with.ensures.ran.1 ∙ ap (λ k. replicate k c.args.empty) long

@@ -1,31 +1,15 @@
-use Rattle.std.proofs.Common.{◌≡◌, ℕ, ◌<◌, true, List, length, get_or, sym, ap, ◌∙◌, subst, arith, below_more}
-use Rattle.std.proofs.lemmas.Slice.Eq.{slice_eq-Decides}
-use Rattle.std.proofs.lemmas.Bool.{both_ways}
-use Rattle.tokens.specs.declared.Mark.{Mark}
-use Rattle.tokens.specs.declared.Mark.TheVariants as mark
+use Rattle.std.proofs.Common.{length, sym, ◌∙◌, rules, tests}
+use Rattle.std.specs.Str.{bytes_eq}
+use Rattle.std.proofs.lemmas.Iterator.{YieldsList-from_slice}
+use Rattle.std.proofs.lemmas.Iterator.Adapters.{option_map_id}
+use Rattle.std.proofs.lemmas.Iterator.Consumers.{YieldsList-from_copied}
+use Rattle.std.proofs.lemmas.Iterator.Search.{find_from_yields_List}
 use Rattle.tokens.specs.Spelling.{spelling}
 use Rattle.tokens.specs.Lookup.{of_length}
-use Rattle.tokens.specs.Pieces.{word}
-use Rattle.tokens.proofs.Listed.{word_listed}
+use Rattle.tokens.proofs.Lookups.{reserved_is}
 use Rattle.tokens.proofs.marks.reserved.Goals as goal
-use Rattle.std.proofs.lemmas.Bool.Decides.{Decides-eqb}
-
-pub returns-then-eq : goal.returns-then-eq
-returns-then-eq c = sym ((slice_eq-Decides Decides-eqb _ _ _ c.eq.ensures).0 c.if-eq.true ∙ c.spelling.ensures)
-
-pub loop-mark-preserved : goal.loop-mark-preserved
-loop-mark-preserved c =
-    below_more _ _ c.loop-mark.invariant
-    (λ e. both_ways _ c.if-eq.false ((slice_eq-Decides Decides-eqb _ _ _ c.eq.ensures).1 (sym (c.spelling.ensures ∙ e))))
-
--- a reserved word would have been met among those of its length
-none : (w : List ℕ) (ms : List Mark) (n : ℕ) → ms ≡ of_length (length w) → length ms ≡ n
-    → ((k : ℕ) → k < n → spelling (get_or ms k mark.Abs) ≡ w → ⊥) → (m : Mark) → word (spelling m) ≡ true → spelling m ≡ w → ⊥
-none w ms n e l h m t s =
-    let r = word_listed m t in
-    let same : of_length (length (spelling m)) ≡ ms = ap (λ v. of_length (length v)) s ∙ sym e in
-    let inside = subst (λ us. r.index < length us) same r.inside in
-    h r.index (omega arith) (ap (λ us. spelling (get_or us r.index mark.Abs)) (sym same) ∙ ap spelling r.is ∙ s)
 
 pub returns : goal.returns
-returns c = none _ _ c.loop-mark.mark-index c.of_length-mark-items.ensures (omega arith) c.loop-mark.invariant
+returns c =
+    let w = c.args.word.now in
+    reserved_is w c.find.result (sym (option_map_id _) ∙ find_from_yields_List (λ m. bytes_eq w (spelling m)) _ _ _ c.find.ensures.ran (YieldsList-from_copied (YieldsList-from_slice (of_length (length w)) (cc))) (λ x b q k. search (rules, tests)))

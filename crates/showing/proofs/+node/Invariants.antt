@@ -1,4 +1,0 @@
-use Rattle.showing.proofs.+node.Given as goal
-
-abbrev pub decreases-node : goal.decreases-node
-decreases-node l = l.left
