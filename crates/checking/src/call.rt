@@ -1,4 +1,4 @@
-// The call: a draft becomes a checked rule.
+// What a draft is refused for on its way to a checked rule.
 
 /// Why a draft is not accepted.
 #[derive(Clone, Copy, Debug, PartialEq, Eq)]

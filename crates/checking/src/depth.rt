@@ -27,10 +27,10 @@ impl Depth {
         ensures none { IfNone result (self.fuel ≡ 0) }
         ensures some { IfSome result (λ d. (self.fuel ≡ d.fuel + 1) × (d.level ≡ self.level + 1)) }
     {
-        let fuel = self.fuel.checked_sub(1)?;
+        let next = self.further()?;
         Some(Depth {
-            level: self.level + 1,
-            fuel,
+            level: next.level + 1,
+            fuel: next.fuel,
         })
     }
 }

@@ -23,7 +23,8 @@ fn smaller(before: Option<usize>, place: usize) -> Option<usize>
     Some(before.map_or(place, |other| other.min(place)))
 }
 
-// The smallest places of three conditions, the free names, each where it first stands, and the place of the first one for which there was no room.
+// The smallest places of three conditions, the free names, each where it first stands, and the place of the first one for which
+// there was no room. It holds no reference, so that it can be moved into a checked rule: each method that reads names is given the text.
 #[derive(Default, Drop)]
 pub struct Findings {
     deep: Option<usize>,
@@ -53,7 +54,7 @@ impl Findings {
     }
 
     // A name of a pattern, behind those that stand earlier in it.
-    pub(crate) fn bound(&mut self, text: &[u8], earlier: &[Span], name: Span)
+    pub(crate) fn pattern_name(&mut self, text: &[u8], earlier: &[Span], name: Span)
         ensures { seen text.now self.new ≡ see_bound (bound_of name.place (spelled text.now name) (map (spelled text.now) earlier.now)) (seen text.now self.old) }
     {
         if among(text, earlier, name) {

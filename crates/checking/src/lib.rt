@@ -1,4 +1,4 @@
-//! Drafts to checked rules.
+//! Drafts to checked rules: the walk that looks for what is refused.
 
 #![tactic(auto)]
 

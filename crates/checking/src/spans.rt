@@ -6,7 +6,7 @@ ghost use Rattle.reading.specs.Entries.{spelled};
 
 use reading::Span;
 
-// The least and the most that a number may be.
+// The least and the most that a number may be. (No range of std: `1..=8` is a call, and a constant's value cannot be one yet.)
 #[derive(Clone, Copy)]
 pub struct Bounds {
     least: u32,
@@ -53,11 +53,12 @@ pub(crate) fn outside(digits: &[u8], bounds: Bounds) -> bool
 {
     let most = u64::from(bounds.most);
     let mut value: u64 = 0;
+    // No fold: it ends early, before the value can overflow.
     for d in digits {
         if value > most {
             return true;
         }
-        value = 10 * value + u64::from(d.saturating_sub(48));
+        value = 10 * value + u64::from(d.saturating_sub(b'0'));
     }
     value < u64::from(bounds.least) || value > most
 }

@@ -32,10 +32,9 @@ impl Source<'_> {
     fn linked(&self, link: Option<usize>) -> Entry
         ensures { result ≡ entry_at self.now.entries.now link }
     {
-        match link {
-            Some(at) => self.entry(at),
-            None => Entry::Empty,
-        }
+        link.and_then(|at| self.entries.get(at))
+            .copied()
+            .unwrap_or(Entry::Empty)
     }
 }
 
@@ -78,7 +77,8 @@ impl<'s> Walk<'s> {
         }
     }
 
-    // An expression or pattern.
+    // An expression or pattern. (This and the next two say of the whole walk what `found` says of itself: inline, each arm that calls
+    // them would have to show it anew.)
     fn node(&mut self, place: usize, level: usize)
         ensures { Walked self.old self.new (node_on place level) }
     {
@@ -103,17 +103,15 @@ impl<'s> Walk<'s> {
     fn bind(&mut self, name: Span)
         ensures { Matched self.old self.new (name_bound name) }
     {
-        if !self.scope.is_full() {
-            self.scope.push(name);
-        }
+        let _ = self.scope.try_push(name);
     }
 
     // A name of a pattern, whose names are in sight from number `from` on.
-    fn bound(&mut self, from: usize, name: Span)
+    fn pattern_name(&mut self, from: usize, name: Span)
         ensures { Matched self.old self.new (bound_from from name) }
     {
         let earlier = since(&self.scope, from);
-        self.found.bound(self.src.text, earlier, name);
+        self.found.pattern_name(self.src.text, earlier, name);
         self.bind(name);
     }
 
@@ -131,7 +129,7 @@ impl<'s> Walk<'s> {
             }
             Entry::NamePattern(name) => {
                 self.node(name.place, depth.level);
-                self.bound(from, name);
+                self.pattern_name(from, name);
             }
             Entry::NumeralPattern(digits) => {
                 self.node(digits.place, depth.level);
@@ -145,7 +143,8 @@ impl<'s> Walk<'s> {
         }
     }
 
-    // The parts of a pattern, from a link on.
+    // The parts of a pattern, from a link on. (The twin of `items`: tried as one function that goes on through a trait, and the
+    // proof did not close, since the trait's method leads back to it.)
     #[cycle(pattern)]
     fn patterns(&mut self, from: usize, link: Option<usize>, depth: Depth)
         ensures { Matched self.old self.new (patterns_at from link depth.fuel depth.level) }
@@ -291,7 +290,8 @@ impl<'s> Walk<'s> {
         body.walk.expression(at, depth);
     }
 
-    // The condition of a comprehension, if it has one: the name is in sight there.
+    // The condition of a comprehension, if it has one: the name is in sight there. (This and `optional`: inline, an arm would end in
+    // two ways, and neither closes without a proof of its own.)
     #[cycle(expression)]
     fn filter(&mut self, name: Span, condition: Option<usize>, depth: Depth)
         ensures { Walked self.old self.new (filter_at name condition depth.fuel depth.level) }

@@ -117,13 +117,13 @@ mod tests {
     #[test]
     fn ranges(rt: HostRuntime) {
         let mut out = [0; 200];
-        assert!(rt; length(operations::range(&[0, 1], &[0, 99], &mut out)) == 200);
-        assert!(rt; out[199] == 99);
+        assert_eq!(rt; length(operations::range(&[0, 1], &[0, 99], &mut out)), 200);
+        assert_eq!(rt; out[199], 99);
         assert!(rt; two_fault(Binary::Union, &out, &[2, 1, 0, 100], 23));
         assert!(rt; two(Binary::Union, &out, &[2, 1, 0, 99], &out));
         assert!(rt; fault(operations::range(&[0, 1], &[0, 100], &mut out), 23));
         assert!(rt; fault(operations::range(&[0, -MAX], &[0, MAX], &mut out), 23));
-        assert!(rt; length(operations::range(&[0, 3], &[0, 1], &mut out)) == 2);
+        assert_eq!(rt; length(operations::range(&[0, 3], &[0, 1], &mut out)), 2);
     }
 
     #[test]
@@ -134,12 +134,12 @@ mod tests {
         assert!(rt; fault(operations::select(3, &pair, &mut out), 24));
         assert!(rt; fault(operations::select(1, &[0, 5], &mut out), 20));
         let mut set = [2, 2, 0, 1, 0, 3, 0, 2];
-        assert!(rt; length(operations::grow(&mut set, 6)) == 8);
+        assert_eq!(rt; length(operations::grow(&mut set, 6)), 8);
         assert_eq!(rt; set, [2, 3, 0, 1, 0, 2, 0, 3]);
         let mut same = [2, 2, 0, 1, 0, 3, 0, 3];
-        assert!(rt; length(operations::grow(&mut same, 6)) == 6);
+        assert_eq!(rt; length(operations::grow(&mut same, 6)), 6);
         let mut row = [3, 1, 0, 9, 0, 2];
-        assert!(rt; length(operations::grow(&mut row, 4)) == 6);
+        assert_eq!(rt; length(operations::grow(&mut row, 4)), 6);
         assert_eq!(rt; row, [3, 2, 0, 9, 0, 2]);
     }
 

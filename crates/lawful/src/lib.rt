@@ -9,7 +9,10 @@ ghost use Rattle.lawful.specs.Shape.{valid as valid_pair, shape as shape_of, asc
 
 use values::{Kind, NoKind};
 
-/// Whether a pair of cells can begin a value.
+/// How many cells a value has at most.
+const MOST_CELLS: usize = 200;
+
+/// Whether a pair of cells can begin a value. The kind is a cell as it came: any number.
 fn valid(kind: i32, content: i32) -> bool
     ensures { result ≡ valid_pair kind content }
 {
@@ -57,8 +60,8 @@ fn ascends(n: usize, s: &[i32]) -> bool
     true
 }
 
-/// Whether the members behind a pair of cells are in the order that it asks for.
-fn inner(kind: i32, content: i32, s: &[i32]) -> bool
+/// Whether the members behind a pair of cells, taken as they came, are in the order that it asks for.
+fn in_order(kind: i32, content: i32, s: &[i32]) -> bool
     ensures { result ≡ members_of kind content s.now }
 {
     kind != Kind::Set as i32 || ascends(values::members(kind, content), s)
@@ -70,7 +73,7 @@ fn sorted(s: &[i32]) -> bool
 {
     let mut rest = s;
     while let [kind, content, more @ ..] = rest {
-        if !inner(*kind, *content, more) {
+        if !in_order(*kind, *content, more) {
             return false;
         }
         rest = more;
@@ -83,5 +86,5 @@ pub fn lawful(s: &[i32]) -> bool
     ensures value { result ≡ true → (v : Value) × (s.now ≡ cells v) × Lawful v }
     ensures every { (v : Value) → s.now ≡ cells v → Lawful v → result ≡ true }
 {
-    s.len() <= 200 && shape(s) && sorted(s)
+    s.len() <= MOST_CELLS && shape(s) && sorted(s)
 }

@@ -1,9 +1,11 @@
 -- Quotient and remainder, with their signs.
-use Rattle.std.proofs.Common.{◌≡◌, ℕ, zero, suc, ◌*◌, ◌/◌, ◌%◌, ◌<◌, ◌⊎◌, ℤ, pos, negsuc, ◌+ℤ◌, ◌-ℤ◌, ◌*ℤ◌, neg_ℤ, ◌≤ℤ◌, ◌<ℤ◌, sym, refl, ap, ◌∙◌, inl, inr, mod-lt, mod-eq_of_lt, mul-zero, mul-suc, arith, w32, SFits}
+use Rattle.std.proofs.Common.{◌≡◌, ◌≢◌, true, false, Bool, ℕ, zero, suc, ◌*◌, ◌/◌, ◌%◌, ◌<◌, ◌⊎◌, ℤ, pos, negsuc, ◌+ℤ◌, ◌-ℤ◌, ◌*ℤ◌, neg_ℤ, ◌≤ℤ◌, ◌<ℤ◌, sym, refl, ap, ◌∙◌, inl, inr, mod-lt, mod-eq_of_lt, mul-zero, mul-suc, arith, w32, SFits, true≢false}
 use native.Mathlib.Nat.{div-add-mod, suc-mod, mod_self, zero-mod, zero-div}
 use native.Mathlib.Decide.{dec_lt}
+use mathlib.Core.Bool.{not, beq}
 use lib.IntN.{pos-*ℤ-pos, pos-*ℤ-negsuc, negsuc-*ℤ-pos, negsuc-*ℤ-negsuc, *ℤ-zero}
-use lib.Signed.{quot_z, rem_z, mag_rem}
+use lib.Signed.{quot_z, rem_z, lt_z, mag_rem}
+use Rattle.std.proofs.lemmas.Bool.{le-ltb}
 use Rattle.std.proofs.lemmas.Int.{ints}
 use Rattle.values.specs.Numbers.{remainder as rem, modulus as modulo, floor as floor_z}
 
@@ -50,34 +52,34 @@ pos_neg a b =
     let q = a / suc b in
     omega (arith, ints, negsuc-*ℤ-negsuc b q, mul-suc (suc b) q, div-add-mod a (suc b))
 
--- b is above 0: the remainder r is raised by b where it is below 0
-pub up_fix : (a b : ℤ) → pos 0 <ℤ b → rem_z a b <ℤ pos 0 → rem_z a b +ℤ b ≡ modulo a b
-up_fix (pos a) (pos b) h r = absurd (omega (arith, ints))
-up_fix (negsuc a) (pos zero) h r = absurd (omega (arith, ints))
-up_fix (negsuc a) (pos (suc b)) h r = elim (row_of a b) [ inl e ↦ omega (arith, ints, e, neg_pos a b) | inr e ↦ absurd (omega (arith, ints, e.0, e.1)) ]
-up_fix (pos a) (negsuc b) h r = absurd (omega (arith, ints))
-up_fix (negsuc a) (negsuc b) h r = absurd (omega (arith, ints))
+-- one of the remainder r and b is below 0, and the other not
+abbrev pub apart : ℤ → ℤ → Bool
+apart r b = not (beq (lt_z r (pos 0)) (lt_z b (pos 0)))
 
-pub up_stay : (a b : ℤ) → pos 0 <ℤ b → pos 0 ≤ℤ rem_z a b → rem_z a b ≡ modulo a b
-up_stay (pos a) (pos b) h r = same (pos a) (pos b) refl
-up_stay (negsuc a) (pos zero) h r = absurd (omega (arith, ints))
-up_stay (negsuc a) (pos (suc b)) h r = elim (row_of a b) [ inl e ↦ absurd (omega (arith, ints, e)) | inr e ↦ omega (arith, ints, e.0, e.1, neg_pos a b) ]
-up_stay (pos a) (negsuc b) h r = absurd (omega (arith, ints))
-up_stay (negsuc a) (negsuc b) h r = absurd (omega (arith, ints))
+not_below : (n : ℕ) → lt_z (pos n) (pos 0) ≡ false
+not_below n = le-ltb n 0 (omega arith)
 
--- b is below 0: the remainder r is lowered by b's size where it is above 0
-pub down_fix : (a b : ℤ) → b ≤ℤ pos 0 → pos 0 <ℤ rem_z a b → (b ≡ pos 0 → ⊥) → rem_z a b +ℤ b ≡ modulo a b
-down_fix (pos zero) (negsuc b) h r n = absurd (omega (arith, ints, zero-mod (suc b)))
-down_fix (pos (suc a)) (negsuc b) h r n = elim (row_of a b) [ inl e ↦ omega (arith, ints, e, pos_neg a b) | inr e ↦ absurd (omega (arith, ints, e.0)) ]
-down_fix (negsuc a) (negsuc b) h r n = absurd (omega (arith, ints))
-down_fix (pos zero) (pos b) h r n = absurd (n (omega (arith, ints)))
-down_fix (pos (suc a)) (pos b) h r n = absurd (n (omega (arith, ints)))
-down_fix (negsuc a) (pos b) h r n = absurd (n (omega (arith, ints)))
+not_apart : (m n : ℕ) → apart (pos m) (pos n) ≡ false
+not_apart m n i = not (beq (not_below m i) (not_below n i))
 
-pub down_stay : (a b : ℤ) → b ≤ℤ pos 0 → rem_z a b ≤ℤ pos 0 → (b ≡ pos 0 → ⊥) → rem_z a b ≡ modulo a b
-down_stay (pos zero) (negsuc b) h r n = same (pos 0) (negsuc b) (ap (λ q. neg_ℤ (pos q)) (zero-div (suc b)))
-down_stay (pos (suc a)) (negsuc b) h r n = elim (row_of a b) [ inl e ↦ absurd (omega (arith, ints, e)) | inr e ↦ omega (arith, ints, e.0, e.1, pos_neg a b) ]
-down_stay (negsuc a) (negsuc b) h r n = same (negsuc a) (negsuc b) refl
-down_stay (pos zero) (pos b) h r n = absurd (n (omega (arith, ints)))
-down_stay (pos (suc a)) (pos b) h r n = absurd (n (omega (arith, ints)))
-down_stay (negsuc a) (pos b) h r n = absurd (n (omega (arith, ints)))
+pub signs : (r b : ℤ) → apart r b ≡ true → ((r <ℤ pos 0) × (pos 0 ≤ℤ b)) ⊎ ((pos 0 ≤ℤ r) × (b <ℤ pos 0))
+signs (pos r) (pos b) h = absurd (true≢false (sym h ∙ not_apart r b))
+signs (pos r) (negsuc b) h = inr (omega (arith, ints), omega (arith, ints))
+signs (negsuc r) (pos b) h = inl (omega (arith, ints), omega (arith, ints))
+signs (negsuc r) (negsuc b) h = absurd (true≢false (sym h))
+
+pub raised : (a b : ℤ) → b ≢ pos 0 → rem_z a b ≢ pos 0 → apart (rem_z a b) b ≡ true → rem_z a b +ℤ b ≡ modulo a b
+raised (pos a) (pos b) n r h = absurd (true≢false (sym h ∙ not_apart (a % b) b))
+raised (pos zero) (negsuc b) n r h = absurd (r (omega (arith, ints, zero-mod (suc b))))
+raised (pos (suc a)) (negsuc b) n r h = elim (row_of a b) [ inl e ↦ omega (arith, ints, e, pos_neg a b) | inr e ↦ absurd (r (omega (arith, ints, e.0))) ]
+raised (negsuc a) (pos zero) n r h = absurd (n refl)
+raised (negsuc a) (pos (suc b)) n r h = elim (row_of a b) [ inl e ↦ omega (arith, ints, e, neg_pos a b) | inr e ↦ absurd (r (omega (arith, ints, e.0))) ]
+raised (negsuc a) (negsuc b) n r h = elim (signs (rem_z (negsuc a) (negsuc b)) (negsuc b) h) [ inl e ↦ absurd (omega (arith, ints, e.1)) | inr e ↦ absurd (r (omega (arith, ints, e.0))) ]
+
+pub kept : (a b : ℤ) → b ≢ pos 0 → (rem_z a b ≡ pos 0) ⊎ (apart (rem_z a b) b ≡ false) → rem_z a b ≡ modulo a b
+kept (pos a) (pos b) n h = same (pos a) (pos b) refl
+kept (pos zero) (negsuc b) n h = same (pos 0) (negsuc b) (ap (λ q. neg_ℤ (pos q)) (zero-div (suc b)))
+kept (pos (suc a)) (negsuc b) n h = elim (row_of a b) [ inl e ↦ elim h [ inl z ↦ absurd (omega (arith, ints, e, z)) | inr z ↦ absurd (true≢false (ap (λ x. not (beq x true)) (sym (not_below (suc a % suc b))) ∙ z)) ] | inr e ↦ omega (arith, ints, e.0, e.1, pos_neg a b) ]
+kept (negsuc a) (pos zero) n h = absurd (n refl)
+kept (negsuc a) (pos (suc b)) n h = elim (row_of a b) [ inl e ↦ elim h [ inl z ↦ absurd (omega (arith, ints, e, z)) | inr z ↦ absurd (true≢false (sym (ap (λ k. apart (neg_ℤ (pos k)) (pos (suc b))) e ∙ ap (λ x. not (beq true x)) (not_below (suc b))) ∙ z)) ] | inr e ↦ omega (arith, ints, e.0, e.1, neg_pos a b) ]
+kept (negsuc a) (negsuc b) n h = same (negsuc a) (negsuc b) refl

@@ -13,25 +13,27 @@ use values::Fault;
 fn ranged(n: i64) -> Result<i32, Fault>
     ensures { result ≡ ranged_of n }
 {
-    if -2147483647 <= n && n <= 2147483647 {
-        Ok(n as i32)
-    } else {
-        Err(Fault::OutOfRange)
+    match i32::try_from(n) {
+        Ok(n) if n != i32::MIN => Ok(n),
+        _ => Err(Fault::OutOfRange),
     }
 }
 
+/// `a + b`.
 pub fn sum(a: i32, b: i32) -> Result<i32, Fault>
     ensures { result ≡ ranged_of (a +ℤ b) }
 {
     ranged(a as i64 + b as i64)
 }
 
+/// `a - b`.
 pub fn difference(a: i32, b: i32) -> Result<i32, Fault>
     ensures { result ≡ ranged_of (a -ℤ b) }
 {
     ranged(a as i64 - b as i64)
 }
 
+/// `a * b`.
 pub fn product(a: i32, b: i32) -> Result<i32, Fault>
     ensures { result ≡ ranged_of (a *ℤ b) }
 {
@@ -42,21 +44,24 @@ pub fn product(a: i32, b: i32) -> Result<i32, Fault>
 pub fn negated(a: i32) -> i32
     ensures { in_range a ≡ true → result ≡ neg_ℤ a }
 {
-    if a == i32::MIN { a } else { -a }
+    a.wrapping_neg()
 }
 
 /// The size of a number `a`.
 pub fn magnitude(a: i32) -> i32
     ensures { in_range a ≡ true → result ≡ pos (unsigned_abs a) }
 {
-    if a < 0 { negated(a) } else { a }
+    a.wrapping_abs()
 }
 
-/// What is made of a quotient.
-#[derive(Clone, Copy)]
+/// Which result of a division is wanted.
+#[derive(Clone, Copy, Debug, PartialEq, Eq)]
 pub enum Division {
+    /// The quotient, cut toward zero.
     Div,
+    /// The remainder with the sign of the dividend.
     Rem,
+    /// The remainder with the sign of the divisor.
     Mod,
 }
 
@@ -67,10 +72,10 @@ fn modulus(a: i32, b: i32) -> i32
     ensures { result ≡ modulus_of a b }
 {
     let r = a % b;
-    if b > 0 {
-        if r < 0 { r + b } else { r }
+    if r != 0 && (r < 0) != (b < 0) {
+        r + b
     } else {
-        if r > 0 { r + b } else { r }
+        r
     }
 }
 

@@ -1,5 +1,5 @@
 -- What is told of a value that is made or picked.
-use Rattle.std.proofs.Common.{◌≡◌, ℕ, zero, suc, ◌+◌, ◌<◌, ◌≤◌, Bool, true, false, cond, eqb, List, [], ◌∷◌, ◌++◌, length, get_or, take, ℤ, pos, nat_abs, Ok, Err, Result, sym, refl, ap, ◌∙◌, arith, MatchResult}
+use Rattle.std.proofs.Common.{◌≡◌, ℕ, zero, suc, ◌<◌, ◌≤◌, Bool, true, false, cond, eqb, List, [], ◌∷◌, length, get_or, take, ℤ, pos, nat_abs, Ok, Err, Result, sym, refl, ap, ◌∙◌, arith, MatchResult}
 use Rattle.std.proofs.lemmas.List.{length-take, length-append}
 use Rattle.std.specs.Result.{IsErrAnd}
 use Rattle.std.proofs.lemmas.Result.{err_from_is_err_and}
@@ -50,12 +50,11 @@ pub of_cells : (o : Result Value Fault) (x : List ℤ) → Ok x ≡ in_cells o �
 of_cells (Ok v) x e = (v, refl, cc)
 of_cells (Err f) x e = absurd (let z : ◌≡◌ {A = ℕ} 0 1 = cc in omega arith)
 
--- a member that is copied
-pub picked : (r : Result ℕ Full) (f : Result ℕ Fault) → Mapped r f → (out old x : List ℤ) (n : ℕ) (vs : List Value) → length old ≡ 200 → MatchResult r (λ m. (take m out ≡ take 0 old ++ x) × (m ≡ 0 + length x) × (m ≤ length old)) (λ _. length old < 0 + length x) → Ok x ≡ in_cells (nth n vs) → length (row vs) ≤ 200 → told f out ≡ in_cells (nth n vs)
-picked (Ok k) f m out old x n vs l h e s = ap (λ o. told o out) m ∙ ap Ok h.0 ∙ e
-picked (Err d) f m out old x n vs l h e s =
+-- a member that is picked
+pub picked_short : (x : List ℤ) (n : ℕ) (vs : List Value) → Ok x ≡ in_cells (nth n vs) → length x ≤ length (row vs)
+picked_short x n vs e =
     let v = of_cells (nth n vs) x e in
-    absurd (omega (arith, h, l, s, ap length v.2, nth_short n vs v.0 v.1))
+    omega (arith, ap length v.2, nth_short n vs v.0 v.1)
 
 -- the row of a collection is shorter than it
 pub row_short : (k : Collection) (vs : List Value) (s : List ℤ) → s ≡ cells (of k vs) → length s ≤ 200 → length (row vs) ≤ 200

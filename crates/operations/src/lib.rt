@@ -22,6 +22,7 @@ ghost use Rattle.operations.specs.Laws.{Lawfuls, Subject, Room};
 use numbers::Division;
 use sets::Blend;
 use syntax::{Binary, Collection, Unary};
+use tables::Table;
 use values::{Fault, Kind, Operand};
 
 /// What the operators make of lawful values is lawful.
@@ -113,6 +114,7 @@ fn pair(out: &mut [i32; 200], kind: Kind, content: i32) -> usize
     2
 }
 
+/// Writes a truth value.
 fn answer(out: &mut [i32; 200], b: bool) -> Result<usize, Fault>
     ensures is { result ≡ Ok 2 }
     ensures holds { take 2 out.new ≡ cells (truth b) }
@@ -120,6 +122,7 @@ fn answer(out: &mut [i32; 200], b: bool) -> Result<usize, Fault>
     Ok(pair(out, Kind::Truth, i32::from(b)))
 }
 
+/// Writes a number, or leaves the buffer alone beside its fault: one way for the six operators that calculate.
 fn number(out: &mut [i32; 200], x: Result<i32, Fault>) -> Result<usize, Fault>
     ensures inside { IfOk result (λ n. n ≤ 200) }
     ensures gives { told result out.new ≡ in_cells (numbered x) }
@@ -142,7 +145,9 @@ fn pick(a: &[i32], n: usize, out: &mut [i32; 200]) -> Result<usize, Fault>
     ensures spared { Spared result out.old out.new }
 {
     let member = sequences::pick(a, n)?;
-    values::append(out, 0, member).map_err(Fault::from)
+    let mut table = Table::make(out);
+    table.extend_from_slice(member)?;
+    Ok(table.len())
 }
 
 /// The member that a sequence has at an index.

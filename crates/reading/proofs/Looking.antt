@@ -1,5 +1,5 @@
 -- From a token to what the reader sees.
-use Rattle.std.proofs.Common.{◌≡◌, Bool, true, false, cond, ◌||◌, List, ◌∷◌, map, length, Bor, sym, refl, ap, ◌∙◌, subst, arith, rules}
+use Rattle.std.proofs.Common.{◌≡◌, Option, Some, None, MatchOption, [], Bool, true, false, cond, ◌||◌, List, ◌∷◌, map, length, Bor, sym, refl, ap, ◌∙◌, subst, arith, rules}
 use Rattle.std.specs.List.{IsFirstAndRest}
 use Rattle.tokens.specs.declared.Token.{Token}
 use Rattle.tokens.specs.Lexeme.{Lexeme, lexeme}
@@ -11,7 +11,7 @@ use Rattle.tokens.specs.declared.Mark.TheVariants as sign
 use Rattle.syntax.specs.declared.Quantifier.TheVariants as quant
 use Rattle.grammar.specs.Steps.{Test, same as same_number, is, is_truth, is_quantifier, first, Misses}
 use Rattle.reading.specs.declared.source.Reader.{Reader}
-use Rattle.reading.specs.Sources.{left, place_or, place_at, Takes, Leaves, Finds, IsTruth, IsQuantifier}
+use Rattle.reading.specs.Sources.{left, place_or, place_at, Takes, Leaves, Moves, Finds, Found, TakesTold, IsTruth, IsQuantifier}
 use Rattle.std.proofs.lemmas.Bool.Decides.{nat_tests}
 use Rattle.grammar.proofs.Tokens.{same_mark}
 use Rattle.reading.proofs.Held.{same, then_moves}
@@ -28,6 +28,30 @@ first_taken r k ks t h e = record {
 pub first_found : {A : Type 0} (r : Reader) (k : Token) (ks : Bor (List Token)) (t : Test) (P : Lexeme → A → Type 0) (a : A) → IsFirstAndRest r.rest.now k ks.now → t (lexeme r.text.now k).symbol ≡ true → P (lexeme r.text.now k) a → Finds r (record r { rest = ks }) t P a
 unfolding first_taken
 first_found r k ks t P a h e p = record { takes = first_taken r k ks t h e; tells = p }
+
+-- what was told of the next token says whether it passes
+pub told_found : {A : Type 0} {tells : Token → Option A → Type 0} {r r' : Reader} {o : Option A} (t : Test) (P : Lexeme → A → Type 0) → TakesTold tells r r' o → ((k : Token) (w : Option A) → tells k w → MatchOption w (t (lexeme r.text.now k).symbol ≡ false) (λ a. (t (lexeme r.text.now k).symbol ≡ true) × P (lexeme r.text.now k) a)) → Found r r' t P o
+told_found {A} {tells} {r} {r'} {o} t P h f = go o h.ends
+  where
+    missed : (ks : List Token) → ((k : Token) (us : List Token) → ks ≡ k ∷ us → tells k None) → Misses t (first (map (lexeme r.text.now) ks))
+    missed [] g = tt
+    missed (k ∷ us) g = f k None (g k us refl)
+
+    go : (w : Option A) → MatchOption w ((r' ≡ r) × ((k : Token) (ks : List Token) → r.rest.now ≡ k ∷ ks → tells k None)) (λ a. (k : Token) × (r.rest.now ≡ k ∷ r'.rest.now) × (r' ≡ record r { rest = r'.rest }) × tells k (Some a)) → Found r r' t P w
+    go None e = record {
+      misses = missed r.rest.now e.1;
+      here = ap left (sym e.0);
+      moves = subst (Moves 0 r) (sym e.0) (record { later = record { text = refl; entries = same _ }; few = refl; room = refl; taken = omega arith });
+    }
+    go (Some a) e = let p = f e.0 (Some a) e.3 in record {
+      takes = record {
+        token = lexeme r.text.now e.0;
+        here = rw e.2 (ap (map (lexeme r.text.now)) e.1);
+        passes = p.0;
+        moves = subst (Moves 1 r) (sym e.2) (record { later = record { text = refl; entries = same _ }; few = refl; room = refl; taken = omega (arith, ap length e.1) });
+      };
+      tells = p.1;
+    }
 
 -- `==` of two marks is the test of their numbers
 pub same_flag : (b : Bool) (m n : Mark) → b ≡ sameb the_type n m → b ≡ same_number m n

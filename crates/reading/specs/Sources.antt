@@ -2,6 +2,7 @@
 use Rattle.std.specs.Prelude.{◌≡◌, ℕ, ◌+◌, ◌≤◌, ◌⊎◌, Bool, true, List, ◌∷◌, map, length, Some, None, Ok, Err, Option, Result, MatchOption, MatchResult}
 use Rattle.tables.specs.Items.{items, room}
 use Rattle.tokens.specs.declared.Mark.TheVariants as sign
+use Rattle.tokens.specs.declared.Token.{Token}
 use Rattle.tokens.specs.Lexeme.{Lexeme, lexeme}
 use Rattle.syntax.specs.declared.Quantifier.{Quantifier}
 use Rattle.syntax.specs.Tree.{Tree, Trees, Pattern, Patterns}
@@ -92,6 +93,10 @@ pub record Alone (r r' : Reader) (t u : Test) : Type 0 where
   pub misses : Misses t (first (left r)) ⊎ (Hits t (first (left r)) × Misses u (second (left r)))
   pub here : left r ≡ left r'
   pub moves : Moves 0 r r'
+
+-- the next token was taken, and a value was told of it; or none was told of it, or there is no token, and nothing changed
+pub record TakesTold {A : Type 0} (tells : Token → Option A → Type 0) (r r' : Reader) (o : Option A) : Type 0 where
+  pub ends : MatchOption o ((r' ≡ r) × ((k : Token) (ks : List Token) → r.rest.now ≡ k ∷ ks → tells k None)) (λ a. (k : Token) × (r.rest.now ≡ k ∷ r'.rest.now) × (r' ≡ record r { rest = r'.rest }) × tells k (Some a))
 
 -- the next token passed the test and was taken, and the value goes with it as P says
 pub record Finds {A : Type 0} (r r' : Reader) (t : Test) (P : Lexeme → A → Type 0) (a : A) : Type 0 where

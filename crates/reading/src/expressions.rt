@@ -580,7 +580,8 @@ impl Reader<'_, '_> {
         }))
     }
 
-    // E (, E)*
+    // E (, E)*, as `patterns` has it of patterns: one function of any parts, over a trait, would recur through that trait, and such
+    // a cycle of calls gets no generated proof.
     #[cycle(expression)]
     fn items(&mut self, limit: Limit) -> Result<usize, Bad>
         requires { Fits 1 self.old }

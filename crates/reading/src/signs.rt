@@ -1,5 +1,5 @@
 // What a token does between two operands, and in front of one.
-ghost use Rattle.std.specs.Prelude.{◌≡◌, Some};
+ghost use Rattle.std.specs.Prelude.{◌≡◌, ◌≢◌, Some, MatchOption};
 ghost use Rattle.grammar.specs.Grammar.{infix_of_mark, prefix_of_mark};
 ghost use Rattle.grammar.specs.Steps.{joins, relates, leads, operation, infix_at, relation_of, unary_of, prefix_at};
 ghost use Rattle.reading.specs.Signs.{left_of, lead_of, operation_of, infix_of, prefix_of, Tells};
@@ -98,14 +98,21 @@ fn before(mark: Mark) -> Option<(Lead, Unary)>
     }
 }
 
+// The mark that a token is, if it is one.
+fn mark_of(kind: Kind) -> Option<Mark>
+    ensures { MatchOption result ((m : Mark) → kind ≢ Kind.Mark m) (λ m. kind ≡ Kind.Mark m) }
+{
+    match kind {
+        Kind::Mark(mark) => Some(mark),
+        Kind::Name | Kind::Numeral => None,
+    }
+}
+
 // The operation of a sign of this level.
 pub(crate) fn chain_sign(level: Left, kind: Kind) -> Option<Operation>
     ensures { Tells kind (joins (left_of level)) (λ s o. operation_of o ≡ operation (infix_at s)) result }
 {
-    let Kind::Mark(mark) = kind else {
-        return None;
-    };
-    match between(mark)? {
+    match between(mark_of(kind)?)? {
         Infix::Chains(found, op) if found == level => Some(op),
         _ => None,
     }
@@ -115,10 +122,7 @@ pub(crate) fn chain_sign(level: Left, kind: Kind) -> Option<Operation>
 pub(crate) fn relation_sign(kind: Kind) -> Option<Binary>
     ensures { Tells kind relates (λ s o. o ≡ relation_of (infix_at s)) result }
 {
-    let Kind::Mark(mark) = kind else {
-        return None;
-    };
-    match between(mark)? {
+    match between(mark_of(kind)?)? {
         Infix::Relates(op) => Some(op),
         _ => None,
     }
@@ -128,9 +132,6 @@ pub(crate) fn relation_sign(kind: Kind) -> Option<Binary>
 pub(crate) fn lead_sign(level: Lead, kind: Kind) -> Option<Unary>
     ensures { Tells kind (leads (lead_of level)) (λ s o. o ≡ unary_of (prefix_at s)) result }
 {
-    let Kind::Mark(mark) = kind else {
-        return None;
-    };
-    let (found, op) = before(mark)?;
+    let (found, op) = before(mark_of(kind)?)?;
     (found == level).then_some(op)
 }

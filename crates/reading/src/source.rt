@@ -4,7 +4,7 @@ ghost use Rattle.grammar.specs.Steps.{is as is_mark, is_name, is_numeral, is_tru
 ghost use Rattle.grammar.specs.Steps.{next as next_of};
 ghost use Rattle.tokens.specs.Lexeme.{symbol};
 ghost use Rattle.grammar.specs.Grammar.{closing as closing_of, kind as kind_of};
-ghost use Rattle.reading.specs.Sources.{place_at, Takes, Leaves, Both, Alone, Found, IsName, IsNumeral, IsTruth, IsQuantifier, Follows, Took, Puts, Fits, limit_of, bracket_of};
+ghost use Rattle.reading.specs.Sources.{place_at, Takes, Leaves, Both, Alone, Found, TakesTold, IsName, IsNumeral, IsTruth, IsQuantifier, Follows, Took, Puts, Fits, limit_of, bracket_of};
 ghost use Rattle.reading.specs.Signs.{left_of, lead_of, operation_of};
 
 use crate::signs::{Lead, Left, Operation, chain_sign, lead_sign, relation_sign};
@@ -74,7 +74,7 @@ pub enum Limit {
     Several,
 }
 
-// Whether a token is this mark.
+// Whether a token is this mark. By a `match`: what `==` of two kinds says, with the marks inside, is not found by the proofs.
 fn is_mark(kind: Kind, mark: Mark) -> bool
     ensures { (bytes : List ℕ) → result ≡ is_mark mark (symbol kind bytes) }
 {
@@ -84,13 +84,15 @@ fn is_mark(kind: Kind, mark: Mark) -> bool
     }
 }
 
-// The part of the text that a token takes.
-fn span_of(token: Token) -> Span
-    ensures { result ≡ record { place = token.place; len = token.len } }
-{
-    Span {
-        place: token.place,
-        len: token.len,
+impl From<Token> for Span {
+    ghost from_gives = { λ token span. span ≡ record { place = token.place; len = token.len } };
+
+    // The part of the text that a token takes.
+    fn from(token: Token) -> Span {
+        Span {
+            place: token.place,
+            len: token.len,
+        }
     }
 }
 
@@ -139,26 +141,27 @@ impl Reader<'_, '_> {
         false
     }
 
+    // Takes the next token, if something is told of it.
+    fn take<A, F: FnOnce(Token) -> Option<A>>(&mut self, tells: F) -> Option<A>
+        requires { F.IsAlwaysCallable tells }
+        ensures { TakesTold (F.post tells) self.old self.new result }
+    {
+        let (token, rest) = self.rest.split_first()?;
+        let told = tells(*token)?;
+        self.rest = rest;
+        Some(told)
+    }
+
     pub(crate) fn name(&mut self) -> Option<Span>
         ensures { Found self.old self.new is_name (IsName self.old.text.now) result }
     {
-        let (token, rest) = self.rest.split_first()?;
-        let Kind::Name = token.kind else {
-            return None;
-        };
-        self.rest = rest;
-        Some(span_of(*token))
+        self.take(|token| matches!(token.kind, Kind::Name).then_some(Span::from(token)))
     }
 
     pub(crate) fn numeral(&mut self) -> Option<Span>
         ensures { Found self.old self.new is_numeral (IsNumeral self.old.text.now) result }
     {
-        let (token, rest) = self.rest.split_first()?;
-        let Kind::Numeral = token.kind else {
-            return None;
-        };
-        self.rest = rest;
-        Some(span_of(*token))
+        self.take(|token| matches!(token.kind, Kind::Numeral).then_some(Span::from(token)))
     }
 
     pub(crate) fn truth(&mut self) -> Option<bool>
@@ -189,30 +192,21 @@ impl Reader<'_, '_> {
     pub(crate) fn chained(&mut self, level: Left) -> Option<Operation>
         ensures { Found self.old self.new (joins (left_of level)) (λ x o. operation_of o ≡ operation (infix_at x.symbol)) result }
     {
-        let (token, rest) = self.rest.split_first()?;
-        let op = chain_sign(level, token.kind)?;
-        self.rest = rest;
-        Some(op)
+        self.take(|token| chain_sign(level, token.kind))
     }
 
     // The operation of a relation.
     pub(crate) fn relating(&mut self) -> Option<Binary>
         ensures { Found self.old self.new relates (λ x o. o ≡ relation_of (infix_at x.symbol)) result }
     {
-        let (token, rest) = self.rest.split_first()?;
-        let op = relation_sign(token.kind)?;
-        self.rest = rest;
-        Some(op)
+        self.take(|token| relation_sign(token.kind))
     }
 
     // The operation of a prefix sign of this level.
     pub(crate) fn leading(&mut self, level: Lead) -> Option<Unary>
         ensures { Found self.old self.new (leads (lead_of level)) (λ x o. o ≡ unary_of (prefix_at x.symbol)) result }
     {
-        let (token, rest) = self.rest.split_first()?;
-        let op = lead_sign(level, token.kind)?;
-        self.rest = rest;
-        Some(op)
+        self.take(|token| lead_sign(level, token.kind))
     }
 
     // Takes the comma behind a part, and says how many parts come then. There is none where the list ends.
@@ -237,7 +231,7 @@ impl Reader<'_, '_> {
         ensures { Puts self.old self.new entry result }
     {
         let node = self.table.len();
-        let _ = self.table.push(entry);
+        self.table.push(entry).unwrap();
         node
     }
 }

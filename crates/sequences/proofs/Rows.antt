@@ -1,5 +1,5 @@
 -- Rows of values: what stands past some of them, and rows one after another.
-use Rattle.std.proofs.Common.{◌≡◌, ℕ, zero, suc, ◌+◌, ◌-◌, ◌*◌, ◌<◌, ◌≤◌, ◌⊎◌, List, [], ◌∷◌, ◌++◌, length, get_or, take, drop, set as put_at, ℤ, pos, negsuc, ◌+ℤ◌, ◌-ℤ◌, nat_abs, ◌≤ℤ◌, ◌<ℤ◌, Ok, Err, sym, refl, ap, ◌∙◌, inl, inr, zero-add, arith}
+use Rattle.std.proofs.Common.{◌≡◌, ℕ, zero, suc, ◌+◌, ◌-◌, ◌*◌, ◌<◌, ◌≤◌, ◌⊎◌, List, [], ◌∷◌, ◌++◌, length, get_or, drop, ℤ, pos, negsuc, ◌+ℤ◌, ◌-ℤ◌, nat_abs, ◌≤ℤ◌, ◌<ℤ◌, Ok, Err, sym, refl, ap, ◌∙◌, inl, inr, zero-add, arith}
 use Rattle.std.proofs.lemmas.List.{length-append, append_assoc}
 use Rattle.syntax.specs.declared.Collection.{Collection}
 use Rattle.syntax.specs.declared.Collection.TheVariants.{Set}
@@ -58,14 +58,6 @@ total k us vs x y e f =
     let a = ap length (cells_of k (us ++ vs)) in
     let b = ap length (row-append us vs) ∙ length-append (row us) (row vs) in
     omega (arith, ap length e, ap length f)
-
-pub second : (k : Collection) (vs : List Value) (s : List ℤ) (d : ℤ) → s ≡ cells (of k vs) → get_or s 1 d ≡ pos (length vs)
-second k vs s d e = ap (λ l. get_or l 1 d) (e ∙ cells_of k vs)
-
-pub first_two : (out : List ℤ) (a b : ℤ) → 2 ≤ length out → take 2 (put_at (put_at out 0 a) 1 b) ≡ a ∷ b ∷ []
-first_two [] a b h = absurd (omega arith)
-first_two (x ∷ []) a b h = absurd (omega arith)
-first_two (x ∷ y ∷ out) a b h = refl
 
 pub counted_of : (k : Collection) (vs : List Value) (s : List ℤ) → s ≡ cells (of k vs) → counted s ≡ length vs
 counted_of k vs s e = ap counted (e ∙ cells_of k vs)

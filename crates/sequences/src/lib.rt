@@ -5,13 +5,15 @@
 ghost use Rattle.std.specs.Prelude.{◌≡◌, ℕ, ◌+◌, ◌-◌, ◌*◌, ◌^◌, ◌<◌, ◌≤◌, List, [], ◌∷◌, ◌++◌, length, take, pos, ◌+ℤ◌, ◌≤ℤ◌, ◌<ℤ◌, IfOk, Ok, Err, MatchResult, slice_index_or};
 ghost use Rattle.syntax.specs.declared.Collection.{Collection};
 ghost use Rattle.syntax.specs.declared.Collection.TheVariants.{Set, Sequence};
+ghost use Rattle.tables.specs.Items.{items, room, loan};
 ghost use Rattle.values.specs.Value.{Value, past, front, cells, row, of};
 ghost use Rattle.values.specs.Numbers.{span, between};
 ghost use Rattle.values.specs.Operators.{nth};
 ghost use Rattle.values.specs.Cells.{in_cells};
 ghost use Rattle.sequences.specs.Count.{counted, width};
 
-use values::{Fault, Full, Kind};
+use tables::{Full, Table};
+use values::{Fault, Kind};
 
 /// `s` past its first `n` values.
 pub fn skip(n: usize, s: &[i32]) -> &[i32]
@@ -61,12 +63,13 @@ pub fn tail(s: &[i32], out: &mut [i32]) -> Result<usize, Full>
     ensures made { (v : Value) (vs : List Value) → s.now ≡ cells (of Sequence (v ∷ vs)) → MatchResult result (λ n. take n out.new ≡ cells (of Sequence vs)) (λ _. length out.old < length (cells (of Sequence vs))) }
 {
     let members = count(s);
-    if out.len() < 2 || members < 1 {
+    if members < 1 {
         return Err(Full);
     }
-    out[0] = Kind::Sequence as i32;
-    out[1] = (members - 1) as i32;
-    values::append(out, 2, values::split(values::inner(s)).1)
+    let mut table = Table::make(out);
+    values::begin(&mut table, Kind::Sequence, members - 1)?;
+    table.extend_from_slice(values::split(values::inner(s)).1)?;
+    Ok(table.len())
 }
 
 /// Two sequences one after the other.
@@ -74,15 +77,11 @@ pub fn join(a: &[i32], b: &[i32], out: &mut [i32]) -> Result<usize, Full>
     ensures inside { IfOk result (λ n. n ≤ length out.old) }
     ensures made { (us vs : List Value) → a.now ≡ cells (of Sequence us) → b.now ≡ cells (of Sequence vs) → length us + length vs < 2 ^ 31 → MatchResult result (λ n. take n out.new ≡ cells (of Sequence (us ++ vs))) (λ _. length out.old < length (cells (of Sequence (us ++ vs)))) }
 {
-    let (x, y) = (values::inner(a), values::inner(b));
-    let members = count(a) + count(b);
-    if out.len() < 2 || members > 2147483647 {
-        return Err(Full);
-    }
-    out[0] = Kind::Sequence as i32;
-    out[1] = members as i32;
-    let m = values::append(out, 2, x)?;
-    values::append(out, m, y)
+    let mut table = Table::make(out);
+    values::begin(&mut table, Kind::Sequence, count(a) + count(b))?;
+    table.extend_from_slice(values::inner(a))?;
+    table.extend_from_slice(values::inner(b))?;
+    Ok(table.len())
 }
 
 /// How many numbers there are from `a` to `b`.
@@ -106,16 +105,17 @@ fn shifted(a: i32, i: usize) -> i32
     (a as i64 + i as i64) as i32
 }
 
-/// Writes `count` numbers from `a` on behind the first two cells of `out`. Says where they end.
-fn numbers(a: i32, count: usize, out: &mut [i32]) -> Result<usize, Full>
-    requires { (2 ≤ length out.old) × ((count ≤ 2 ^ 32) × ((a +ℤ pos count) ≤ℤ (pos 2147483648))) }
-    ensures { MatchResult result (λ n. (take n out.new ≡ take 2 out.old ++ row (span a count)) × (n ≡ 2 + 2 * count) × (n ≤ length out.old)) (λ _. length out.old < 2 + 2 * count) }
+/// Adds `count` numbers from `a` on behind the items of the table.
+fn numbers(a: i32, count: usize, table: &mut Table<'_, i32>) -> Result<(), Full>
+    requires { (count ≤ 2 ^ 32) × ((a +ℤ pos count) ≤ℤ (pos 2147483648)) }
+    ensures made { MatchResult result (λ _. items table.new ≡ items table.old ++ row (span a count)) (λ _. room table.old < length (items table.old) + 2 * count) }
+    ensures room { room table.new ≡ room table.old }
+    ensures lent { loan table.new ≡ loan table.old }
 {
-    let mut at: usize = 2;
     for i in 0..count {
-        at = values::append(out, at, &[Kind::Number as i32, shifted(a, i)])?;
+        table.extend_from_slice(&[Kind::Number as i32, shifted(a, i)])?;
     }
-    Ok(at)
+    Ok(())
 }
 
 /// The set of the numbers from `a` to `b`, for a buffer of at most 200 cells.
@@ -124,10 +124,11 @@ pub fn range(a: i32, b: i32, out: &mut [i32]) -> Result<usize, Full>
     ensures made { length out.old ≤ 200 → MatchResult result (λ n. take n out.new ≡ cells (of Set (between a b))) (λ _. length out.old < length (cells (of Set (between a b)))) }
 {
     let count = wide(a, b);
-    if out.len() < 2 || count > 99 {
+    if count > 99 {
         return Err(Full);
     }
-    out[0] = Kind::Set as i32;
-    out[1] = count as i32;
-    numbers(a, count, out)
+    let mut table = Table::make(out);
+    values::begin(&mut table, Kind::Set, count)?;
+    numbers(a, count, &mut table)?;
+    Ok(table.len())
 }

@@ -1,7 +1,7 @@
 -- One turn of the walk through two rows of members.
-use Rattle.std.proofs.Common.{◌≡◌, ℕ, zero, suc, ◌+◌, ◌-◌, ◌<◌, ◌≤◌, Bool, true, false, cond, List, [], ◌∷◌, ◌++◌, length, take, set as put_at, ℤ, pos, Ordering, Less, Equal, Greater, sym, refl, ap, ◌∙◌, subst₂, arith}
-use lib.Seq.{take-set-lt}
+use Rattle.std.proofs.Common.{◌≡◌, ℕ, zero, suc, ◌+◌, ◌-◌, ◌<◌, ◌≤◌, Bool, true, false, cond, if◌then◌else◌, nat_lt, List, [], ◌∷◌, ◌++◌, length, set as put_at, ℤ, pos, Ordering, Less, Equal, Greater, sym, refl, ap, ◌∙◌, subst₂, arith}
 use Rattle.std.proofs.lemmas.List.{append_assoc, length-append, length-take-le}
+use Rattle.std.proofs.lemmas.Bool.{lt-ltb}
 use Rattle.std.specs.Ordering.{is_le, is_ge}
 use Rattle.syntax.specs.declared.Collection.TheVariants.{Set}
 use Rattle.sets.specs.declared.Blend.{Blend}
@@ -132,21 +132,15 @@ pub goes_on : (old piece now whole rest goal : List ℤ) → now ≡ old ++ piec
 goes_on old piece now whole rest goal e f g = ap (λ t. t ++ rest) e ∙ append_assoc old piece rest ∙ ap (λ t. old ++ t) (sym f) ∙ g
 
 -- a piece for which there is no room: there is none for the whole
-pub no_room : (out out0 piece whole rest goal : List ℤ) (at n : ℕ) → at ≤ length out → n ≤ length out0 → length out ≡ length out0 → length out < at + length piece → whole ≡ piece ++ rest → take at out ++ whole ≡ take n out0 ++ goal → length out0 < n + length goal
-no_room out out0 piece whole rest goal at n h g k l f e =
+pub no_room : (old now piece whole rest goal : List ℤ) (room : ℕ) → room < length now + length piece → whole ≡ piece ++ rest → now ++ whole ≡ old ++ goal → room < length old + length goal
+no_room old now piece whole rest goal room l f e =
     let a = ap length f ∙ length-append piece rest in
-    let b : length (take at out) + length whole ≡ length (take n out0) + length goal = sym (length-append (take at out) whole) ∙ ap length e ∙ length-append (take n out0) goal in
-    let c = length-take-le at out h in
-    let d = length-take-le n out0 g in
+    let b : length now + length whole ≡ length old + length goal = sym (length-append now whole) ∙ ap length e ∙ length-append old goal in
     omega arith
 
--- the first pair of cells, and the count in its place at the end
-pub pair_front : (out : List ℤ) (a b : ℤ) → 2 ≤ length out → take 2 (put_at (put_at out 0 a) 1 b) ≡ a ∷ b ∷ []
-pair_front [] a b h = let z : ◌≡◌ {A = ℕ} 0 1 = omega arith in cc
-pair_front (x ∷ []) a b h = let z : ◌≡◌ {A = ℕ} 0 1 = omega arith in cc
-pair_front (x ∷ y ∷ out) a b h = refl
-
-pub headed : (out now : List ℤ) (n m : ℕ) (c : ℤ) (vs : List Value) → 2 ≤ length out → 2 ≤ n → take n now ≡ take 2 (put_at (put_at out 0 (pos 2)) 1 (pos 0)) ++ row vs → m ≡ length vs → c ≡ pos m → take n (put_at now 1 c) ≡ cells (of Set vs)
-headed out now n m c vs h g e k d =
-    let a = pair_front out (pos 2) (pos 0) h in
-    take-set-lt n now 1 c g ∙ ap (λ t. put_at t 1 c) (e ∙ ap (λ t. t ++ row vs) a) ∙ ap (λ p. pos 2 ∷ p ∷ row vs) (d ∙ ap pos k) ∙ sym (cells_of Set vs)
+-- a pair of cells whose second cell was set to how many members follow
+pub headed : (before after : List ℤ) (m : ℕ) (done : Bool) (c : ℤ) (vs : List Value) → after ≡ (if done then put_at before 1 c else before) → done ≡ nat_lt 1 (length before) → before ≡ pos 2 ∷ pos 0 ∷ row vs → m ≡ length vs → c ≡ pos m → after ≡ cells (of Set vs)
+headed before after m done c vs g d b k p =
+    let h : 1 < length before = omega (arith, ap length b) in
+    let t : done ≡ true = d ∙ lt-ltb 1 (length before) h in
+    g ∙ (λ i. if t i then put_at (b i) 1 c else b i) ∙ ap (λ z. pos 2 ∷ z ∷ row vs) (p ∙ ap pos k) ∙ sym (cells_of Set vs)

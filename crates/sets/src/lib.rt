@@ -5,6 +5,7 @@
 ghost use Rattle.std.specs.Prelude.{◌≡◌, ℕ, ◌+◌, ◌-◌, ◌<◌, ◌≤◌, true, List, [], ◌∷◌, ◌++◌, length, take, ℤ, IfOk, IfSome, if◌then◌else◌, MatchResult, OnErr};
 ghost use Rattle.syntax.specs.declared.Collection.{Collection};
 ghost use Rattle.syntax.specs.declared.Collection.TheVariants.{Set};
+ghost use Rattle.tables.specs.Items.{items, room, loan};
 ghost use Rattle.values.specs.Value.{Value, past, cells, row, of, code};
 ghost use Rattle.values.specs.Operators.{grown};
 ghost use Rattle.values.specs.Lawful.{ascending};
@@ -13,7 +14,8 @@ ghost use Rattle.sets.specs.Walk.{keeps as keeps_at, side as side_of, taken as t
 ghost use Rattle.sets.specs.Laws.{Order, Membership};
 
 use std::cmp::Ordering;
-use values::{Full, Kind};
+use tables::{Full, Table};
+use values::Kind;
 
 /// The order of values is total, and tells them apart.
 pub fn order_laws()
@@ -25,14 +27,15 @@ pub fn membership_laws()
     ensures { Membership }
 {}
 
-/// Which members of two sets stay. By name, and not by a closure: the clauses speak of these three.
-#[derive(Clone, Copy)]
+/// Which members of two sets stay. An enum, and no closure, since the promise is for these three only.
+#[derive(Clone, Copy, Debug, PartialEq, Eq)]
 pub enum Blend {
     Union,
     Inter,
     Difference,
 }
 
+/// Whether a member stays, by where it is: in the first alone, in both, in the second alone.
 fn keeps(op: Blend, o: Ordering) -> bool
     ensures { result ≡ keeps_at op o }
 {
@@ -56,7 +59,7 @@ fn side(x: &[i32], y: &[i32]) -> Ordering
     }
 }
 
-/// The one or the other. A function of its own, so that one clause tells both cases to the proofs of the walks.
+/// The one or the other. With two `if`s in its place each goal of a walk falls into nine cases.
 fn choose<'a>(first: bool, x: &'a [i32], y: &'a [i32]) -> &'a [i32]
     ensures { result.now ≡ (if first then x.now else y.now) }
 {
@@ -74,27 +77,27 @@ fn taken<'a>(keep: bool, o: Ordering, x: &'a [i32], y: &'a [i32]) -> &'a [i32]
     }
 }
 
-/// Writes the members that stay behind the first `n` cells of `out`. Says where they end, and how many they are.
-fn weave(op: Blend, a: &[i32], b: &[i32], out: &mut [i32], n: usize) -> Result<(usize, usize), Full>
-    requires { n ≤ length out.old }
-    ensures inside { IfOk result (λ p. (n ≤ p.0) × (p.0 ≤ length out.old) × (p.1 ≤ length a.now + length b.now)) }
-    ensures made { (us ts : List Value) → a.now ≡ row us → b.now ≡ row ts → MatchResult result (λ p. (take p.0 out.new ≡ take n out.old ++ row (merge (keeps_at op) us ts)) × (p.1 ≡ length (merge (keeps_at op) us ts))) (λ _. length out.old < n + length (row (merge (keeps_at op) us ts))) }
+/// Adds the members that stay behind the items of the table. Says how many they are.
+fn weave(op: Blend, a: &[i32], b: &[i32], table: &mut Table<'_, i32>) -> Result<usize, Full>
+    ensures inside { IfOk result (λ m. m ≤ length a.now + length b.now) }
+    ensures made { (us ts : List Value) → a.now ≡ row us → b.now ≡ row ts → MatchResult result (λ m. (items table.new ≡ items table.old ++ row (merge (keeps_at op) us ts)) × (m ≡ length (merge (keeps_at op) us ts))) (λ _. room table.old < length (items table.old) + length (row (merge (keeps_at op) us ts))) }
+    ensures room { room table.new ≡ room table.old }
+    ensures lent { loan table.new ≡ loan table.old }
 {
     let mut x = a;
     let mut y = b;
-    let mut at = n;
     let mut made: usize = 0;
     while !x.is_empty() || !y.is_empty() {
         let (u, us) = values::split(x);
         let (t, ts) = values::split(y);
         let o = side(u, t);
         let keep = keeps(op, o);
-        at = values::append(out, at, taken(keep, o, u, t))?;
+        table.extend_from_slice(taken(keep, o, u, t))?;
         made += usize::from(keep);
         x = choose(o.is_le(), us, x);
         y = choose(o.is_ge(), ts, y);
     }
-    Ok((at, made))
+    Ok(made)
 }
 
 /// Union, intersection or difference of two sets of at most 200 cells.
@@ -102,14 +105,14 @@ pub fn combine(op: Blend, a: &[i32], b: &[i32], out: &mut [i32]) -> Result<usize
     ensures inside { IfOk result (λ n. n ≤ length out.old) }
     ensures made { (us ts : List Value) → a.now ≡ cells (of Set us) → b.now ≡ cells (of Set ts) → length a.now ≤ 200 → length b.now ≤ 200 → ascending us ≡ true → ascending ts ≡ true → MatchResult result (λ n. take n out.new ≡ cells (of Set (blended op us ts))) (λ _. length out.old < length (cells (of Set (blended op us ts)))) }
 {
-    if out.len() < 2 || a.len() > 200 || b.len() > 200 {
+    if a.len() > 200 || b.len() > 200 {
         return Err(Full);
     }
-    out[0] = Kind::Set as i32;
-    out[1] = 0;
-    let (n, made) = weave(op, values::inner(a), values::inner(b), out, 2)?;
-    out[1] = made as i32;
-    Ok(n)
+    let mut table = Table::make(out);
+    values::begin(&mut table, Kind::Set, 0)?;
+    let made = weave(op, values::inner(a), values::inner(b), &mut table)?;
+    table.set(1, made as i32);
+    Ok(table.len())
 }
 
 /// Whether each value of the ascending row `a` is one of the ascending row `b`.
@@ -155,7 +158,7 @@ pub fn contains(s: &[i32], x: &[i32]) -> bool
     seek(s, x).is_none()
 }
 
-/// Where a new member goes: to its place in a set, unless it is there, else behind the others.
+/// Where a new member goes: to its place in a set, unless it is there, else behind the others. The kind is a cell as it came.
 fn locate(kind: i32, members: &[i32], x: &[i32]) -> Option<usize>
     ensures inside { IfSome result (λ p. p ≤ length members.now) }
     ensures placed { (k : Collection) (us : List Value) (v : Value) → kind ≡ code k → members.now ≡ row us → x.now ≡ cells v → Placed (grown k us v) us v result }
@@ -201,12 +204,9 @@ pub fn gather(s: &[i32], out: &mut [i32]) -> Result<usize, Full>
     ensures inside { IfOk result (λ n. n ≤ length out.old) }
     ensures made { (vs : List Value) → s.now ≡ row vs → 2 + length s.now ≤ 200 → 2 + length s.now ≤ length out.old → MatchResult result (λ n. (take n out.new ≡ cells (of Set (gathered [] vs))) × (n ≤ 2 + length s.now)) (λ _. ⊥) }
 {
-    if out.len() < 2 {
-        return Err(Full);
-    }
-    out[0] = Kind::Set as i32;
-    out[1] = 0;
-    let mut n: usize = 2;
+    let mut table = Table::make(out);
+    values::begin(&mut table, Kind::Set, 0)?;
+    let mut n = table.len();
     let mut rest = s;
     while !rest.is_empty() {
         let (x, more) = values::split(rest);

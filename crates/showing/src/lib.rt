@@ -17,7 +17,8 @@ const LEVELS: usize = 64;
 const REFUSAL_MAX: usize = 35;
 
 /// How a tree is laid out.
-#[derive(Clone, Copy)]
+// Two layouts, known here: a trait would spread the six arms of `indent`, `cut` and `node` over two impls.
+#[derive(Clone, Copy, Debug, PartialEq, Eq)]
 pub enum Layout {
     /// One node to a line, its parts two blanks further in.
     Lines,
@@ -59,7 +60,7 @@ impl fmt::Display for Label {
 }
 
 // The place of a node. A link of a list has none.
-fn place(entry: Entry) -> Option<usize> {
+fn place_of(entry: Entry) -> Option<usize> {
     match entry {
         Entry::Empty | Entry::Item { .. } | Entry::Alternative { .. } => None,
         Entry::Numeral(span)
@@ -86,7 +87,7 @@ fn place(entry: Entry) -> Option<usize> {
 }
 
 // The name or numeral that a node has.
-fn spelling(entry: Entry) -> Option<Span> {
+fn spelling_of(entry: Entry) -> Option<Span> {
     match entry {
         Entry::Numeral(span)
         | Entry::Name(span)
@@ -102,7 +103,7 @@ fn spelling(entry: Entry) -> Option<Span> {
 }
 
 // The entries of its parts, in order.
-fn parts(entry: Entry) -> [Option<usize>; 3] {
+fn parts_of(entry: Entry) -> [Option<usize>; 3] {
     match entry {
         Entry::Unary { operand, .. } => [Some(operand), None, None],
         Entry::Binary { left, right, .. } | Entry::Connective { left, right, .. } => {
@@ -183,7 +184,7 @@ impl<'d, W: Write> TreeWriter<'d, W> {
     fn head(&mut self, entry: Entry, place: usize) -> io::Result<()> {
         let label = Label(entry);
         write!(self.out, "{place} {label}")?;
-        if let Some(Span { place, len }) = spelling(entry) {
+        if let Some(Span { place, len }) = spelling_of(entry) {
             if let Some(spelling) = self.draft.text().get(place..place.saturating_add(len)) {
                 write!(self.out, " ")?;
                 self.out.write_all(spelling)?;
@@ -198,7 +199,7 @@ impl<'d, W: Write> TreeWriter<'d, W> {
         let Some(&entry) = self.draft.entries().get(at) else {
             return Ok(());
         };
-        let Some(place) = place(entry) else {
+        let Some(place) = place_of(entry) else {
             return self.parts(entry, level, left);
         };
         if level >= LEVELS {
@@ -224,7 +225,7 @@ impl<'d, W: Write> TreeWriter<'d, W> {
     #[cycle(nodes)]
     fn parts(&mut self, entry: Entry, level: usize, left: usize) -> io::Result<()> {
         if left > 0 {
-            for part in parts(entry).into_iter().flatten() {
+            for part in parts_of(entry).into_iter().flatten() {
                 self.node(part, level, left - 1)?;
             }
         }
@@ -256,6 +257,7 @@ pub fn read_text(rt: &HostRuntime, buffer: &mut [u8]) -> io::Result<usize>
 /// Writes a refusal.
 pub fn write_refusal(rt: &HostRuntime, refused: Refused) -> io::Result<()> {
     let mut line = [0; REFUSAL_MAX];
+    // Each line fits, so that this error is never returned.
     let len = write_refused(refused, &mut line).map_err(|_| io::ErrorKind::WriteZero)?;
     rt.stdout().write_all(&line[..len])
 }

@@ -18,3 +18,7 @@ module _ {T : Type 0} where
   -- how many items it has room for
   abbrev pub room : Table T → ℕ
   room t = length (slots t)
+
+  -- which loan its slots are: at its end they go back to the one who lent them
+  abbrev pub loan : Table T → ℕ
+  loan t = t.slots.ghost_name

@@ -8,9 +8,8 @@ mod ops;
 
 pub use ops::Full;
 
-// No heap: the slots are lent. It has no ghost field, so that it can be moved into other types, and no `impl Model`: a model would
-// be the lists `items` and `spare` of specs/, by the same `take` and `drop`, and no clause or proof would be shorter. Each function
-// is right at every `len`: a table whose `len` passed its slots would count as full.
+// No heap: the slots are lent. No ghost field: it is moved into other types. No `impl Model`: it would be `items` and `spare` of
+// specs/ again, and shorten no clause or proof. Each function is right at every `len`: past the slots it counts as full.
 #[derive(Drop)]
 pub struct Table<'a, T> {
     slots: &'a mut [T],

@@ -1,5 +1,5 @@
 ghost use Rattle.std.specs.Prelude.{◌≡◌, ◌+◌, ◌<◌, ◌≤◌, false, [], ◌∷◌, ◌++◌, length, drop, set as replaced, replicate, is_ok, if◌then◌else◌, MatchOption, nat_lt, nat_le, slice_index_or};
-ghost use Rattle.tables.specs.Items.{slots as slots_of, items as items_of, spare, room};
+ghost use Rattle.tables.specs.Items.{slots as slots_of, items as items_of, spare, room, loan};
 
 use crate::Table;
 
@@ -13,6 +13,7 @@ impl<'a, T: Copy> Table<'a, T> {
         ensures items { items_of result ≡ [] }
         ensures spare { spare result ≡ slots.old }
         ensures room { room result ≡ length slots.old }
+        ensures lent { loan result ≡ slots.entry.ghost_name }
     {
         Table { slots, len: 0 }
     }
@@ -46,6 +47,7 @@ impl<'a, T: Copy> Table<'a, T> {
         ensures len { length (items_of self.new) ≡ (if is_ok result then length (items_of self.old) + 1 else length (items_of self.old)) }
         ensures room { room self.new ≡ room self.old }
         ensures same { is_ok result ≡ false → self.new ≡ self.old }
+        ensures lent { loan self.new ≡ loan self.old }
     {
         if self.len < self.slots.len() {
             self.slots[self.len] = x;
@@ -56,8 +58,8 @@ impl<'a, T: Copy> Table<'a, T> {
         }
     }
 
-    #[tactic(auto, using(std::proofs::lemmas::Slice::overwrites))]
     /// Adds `xs` behind the items. Refuses, and leaves the table as it was, where fewer slots are left.
+    #[tactic(auto, using(std::proofs::lemmas::Slice::overwrites))]
     pub fn extend_from_slice(&mut self, xs: &[T]) -> Result<(), Full>
         ensures test { is_ok result ≡ nat_le (length (items_of self.old) + length xs.now) (room self.old) }
         ensures items { items_of self.new ≡ (if is_ok result then items_of self.old ++ xs.now else items_of self.old) }
@@ -65,11 +67,12 @@ impl<'a, T: Copy> Table<'a, T> {
         ensures len { length (items_of self.new) ≡ (if is_ok result then length (items_of self.old) + length xs.now else length (items_of self.old)) }
         ensures room { room self.new ≡ room self.old }
         ensures same { is_ok result ≡ false → self.new ≡ self.old }
+        ensures lent { loan self.new ≡ loan self.old }
     {
-        if xs.len() > self.remaining() {
+        let start = self.len();
+        if xs.len() > self.slots.len() - start {
             return Err(Full);
         }
-        let start = self.len();
         let end = start + xs.len();
         self.slots[start..end].copy_from_slice(xs);
         self.len = end;
@@ -90,12 +93,14 @@ impl<'a, T: Copy> Table<'a, T> {
         self.items().get(i).copied()
     }
 
-    /// Replaces the item at `i`. Says whether there is one, and changes nothing where there is none.
+    /// Replaces the item at `i`. Says whether there is one, and changes nothing where there is none. (A plain answer, as
+    /// `HashSet::insert` gives: no reason and no value goes with it.)
     pub fn set(&mut self, i: usize, x: T) -> bool
         ensures test { result ≡ nat_lt i (length (items_of self.old)) }
         ensures items { items_of self.new ≡ (if result then replaced (items_of self.old) i x else items_of self.old) }
         ensures spare { spare self.new ≡ spare self.old }
         ensures same { result ≡ false → self.new ≡ self.old }
+        ensures lent { loan self.new ≡ loan self.old }
     {
         if i < self.len() {
             self.slots[i] = x;
@@ -109,16 +114,18 @@ impl<'a, T: Copy> Table<'a, T> {
     pub fn clear(&mut self, empty: T)
         ensures items { items_of self.new ≡ [] }
         ensures slots { slots_of self.new ≡ replicate (room self.old) empty }
+        ensures lent { loan self.new ≡ loan self.old }
     {
         self.slots.fill_with(|| empty);
         self.len = 0;
     }
 
-    #[tactic(auto, using(std::proofs::lemmas::Slice::overwrites))]
     /// Writes `empty` into every slot that is left.
+    #[tactic(auto, using(std::proofs::lemmas::Slice::overwrites))]
     pub fn blank(&mut self, empty: T)
         ensures items { items_of self.new ≡ items_of self.old }
         ensures spare { spare self.new ≡ replicate (length (spare self.old)) empty }
+        ensures lent { loan self.new ≡ loan self.old }
     {
         let start = self.len();
         self.slots[start..].fill_with(|| empty);

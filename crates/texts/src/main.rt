@@ -19,6 +19,7 @@ fn answer(rt: &HostRuntime, number: usize, text: &[u8]) -> io::Result<()> {
     match read(text, &mut slots) {
         Ok(draft) => {
             let shown = show(rt, &draft, Layout::Nested);
+            // A draft is not dropped: it gives its slots back.
             let _ = draft.release();
             shown?;
         }

@@ -6,16 +6,19 @@
 
 mod kinds;
 
-ghost use Rattle.std.specs.Prelude.{◌≡◌, ℕ, ◌+◌, ◌-◌, ◌<◌, ◌≤◌, List, [], ◌∷◌, ◌++◌, length, take, drop, ℤ, pos, MatchResult, slice_index_or};
+ghost use Rattle.std.specs.Prelude.{◌≡◌, ℕ, ◌+◌, ◌-◌, ◌<◌, ◌≤◌, ◌^◌, ◌⊎◌, List, [], ◌∷◌, ◌++◌, length, take, drop, ℤ, pos, MatchResult, OnErr, slice_index_or};
+ghost use Rattle.tables.specs.Items.{items, room, loan};
 ghost use Rattle.values.specs.Faults.{number as fault_number};
 ghost use Rattle.values.specs.Value.{within, past, by_cells, front};
 ghost use Rattle.values.specs.Cells.{begins};
+ghost use Rattle.values.specs.Kinds.{cell};
 ghost use Rattle.values.specs.declared.Fault.TheVariants.{TooLarge};
 
 pub use kinds::{Kind, NoKind};
 use std::cmp::Ordering;
 use syntax::Collection;
 pub use tables::Full;
+use tables::Table;
 
 /// Why an expression has no value, with the number by which it is reported.
 #[derive(Clone, Copy, Debug, PartialEq, Eq)]
@@ -63,7 +66,7 @@ pub enum Operand {
     Many(Collection),
 }
 
-/// How many members follow a pair of cells.
+/// How many members follow a pair of cells. Any cells: they are taken as they came, and need not begin a value.
 pub fn members(kind: i32, content: i32) -> usize
     ensures { result ≡ within kind content }
 {
@@ -119,7 +122,7 @@ pub fn inner(s: &[i32]) -> &[i32]
     s.get(2..).unwrap_or(&[])
 }
 
-/// The first cell: the kind of a value.
+/// The first cell: the kind of a value, as it stands there, since of other cells a caller is told it too.
 pub fn kind(s: &[i32]) -> i32
     ensures { result ≡ slice_index_or s.now 0 (pos 0) }
 {
@@ -133,7 +136,7 @@ pub fn content(s: &[i32]) -> i32
     s.get(1).copied().unwrap_or(0)
 }
 
-/// Whether an operand is of the kind that is asked for.
+/// Whether an operand is of the kind that is asked for. Its kind is a cell as it came: any number.
 pub fn is(what: Operand, kind: i32) -> bool
     ensures { result ≡ begins what kind }
 {
@@ -148,8 +151,21 @@ pub fn is(what: Operand, kind: i32) -> bool
     kind == wanted as i32
 }
 
+/// Adds the pair of cells before `count` members. Refuses, and leaves the table as it was, where they are too many for a cell or no room is left.
+pub fn begin(table: &mut Table<'_, i32>, kind: Kind, count: usize) -> Result<(), Full>
+    ensures begun { MatchResult result (λ _. (items table.new ≡ items table.old ++ cell kind ∷ pos count ∷ []) × (count < 2 ^ 31)) (λ _. (2 ^ 31 ≤ count) ⊎ (room table.old < length (items table.old) + 2)) }
+    ensures room { room table.new ≡ room table.old }
+    ensures same { OnErr result (table.new ≡ table.old) }
+    ensures lent { loan table.new ≡ loan table.old }
+{
+    let Ok(content) = i32::try_from(count) else {
+        return Err(Full);
+    };
+    table.extend_from_slice(&[kind as i32, content])
+}
+
 /// Writes `piece` behind the first `n` cells of `out`. Says where it ends.
-// The length stands beside the buffer: behind the methods of a `Table` no clause says over which slots it stands, so that nothing could be said of `out`.
+// The length stands beside the buffer: the cells are changed in place after it, and of a table over a part of a buffer no clause says what it leaves there.
 pub fn append(out: &mut [i32], n: usize, piece: &[i32]) -> Result<usize, Full>
     ensures { MatchResult result (λ m. (take m out.new ≡ take n out.old ++ piece.now) × (m ≡ n + length piece.now) × (m ≤ length out.old)) (λ _. length out.old < n + length piece.now) }
 {

@@ -16,6 +16,7 @@ fn main(rt: HostRuntime) -> io::Result<()> {
     match read(&buffer[..n], &mut slots) {
         Ok(draft) => {
             let shown = show(&rt, &draft, Layout::Lines);
+            // A draft is not dropped: it gives its slots back.
             let _ = draft.release();
             shown
         }

@@ -3,3 +3,4 @@ mod Walk
 mod Bound
 mod Printable
 mod Distinct
+mod Pairs

@@ -16,7 +16,7 @@ ghost use Rattle.writing.specs.declared.Unwritten.TheVariants as unwritten;
 
 use crate::line::{Line, add_number, add_place, copy_to};
 use syntax::{Collection, Refused};
-use values::Fault;
+use values::{Fault, Kind, NoKind};
 
 mod line;
 
@@ -52,13 +52,15 @@ enum Head {
 impl From<(i32, i32)> for Head {
     ghost from_gives = { λ pair head. head ≡ head_of pair.0 pair.1 };
 
+    #[tactic(auto, using(crate::proofs::Pairs::no_kind))]
     fn from((kind, content): (i32, i32)) -> Head {
-        match kind {
-            1 => Head::Truth(content != 0),
-            2 => Head::Many(Collection::Set, values::members(kind, content)),
-            3 => Head::Many(Collection::Sequence, values::members(kind, content)),
-            4 => Head::Many(Collection::Tuple, values::members(kind, content)),
-            _ => Head::Number(content),
+        let count = values::members(kind, content);
+        match Kind::try_from(kind) {
+            Ok(Kind::Truth) => Head::Truth(content != 0),
+            Ok(Kind::Set) => Head::Many(Collection::Set, count),
+            Ok(Kind::Sequence) => Head::Many(Collection::Sequence, count),
+            Ok(Kind::Tuple) => Head::Many(Collection::Tuple, count),
+            Ok(Kind::Number) | Err(NoKind) => Head::Number(content),
         }
     }
 }

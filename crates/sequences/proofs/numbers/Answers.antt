@@ -1,14 +1,10 @@
-use Rattle.std.proofs.Common.{◌≡◌, ◌+◌, ◌-◌, [], ◌∷◌, ◌++◌, take, pos, ◌+ℤ◌, ap, ◌∙◌, arith, w32, SFits, rules}
+use Rattle.std.proofs.Common.{◌≡◌, ◌+◌, ◌-◌, [], ◌∷◌, ◌++◌, length, pos, ◌+ℤ◌, ap, ◌∙◌, arith, w32, SFits, rules}
 use Rattle.std.proofs.lemmas.Int.{to_z-of_z}
+use Rattle.tables.specs.Items.{items}
 use Rattle.values.specs.Value.{row}
 use Rattle.values.specs.Numbers.{span}
-use Rattle.sequences.proofs.Rows.{span_step, span_from, pair_on}
+use Rattle.sequences.proofs.Rows.{span_step, pair_on}
 use Rattle.sequences.proofs.numbers.Goals as goal
-
-pub loop-i-init : goal.loop-i-init
-loop-i-init c =
-    let f = c.ranges.a in
-    (simp to_z-of_z (ap (λ l. take 2 c.args.out.now ++ row l) (span_from c.args.a c.args.count)), omega arith, omega arith)
 
 pub loop-i-preserved : goal.loop-i-preserved
 loop-i-preserved c =
@@ -17,11 +13,14 @@ loop-i-preserved c =
     let n = c.args.count in
     let f = c.ranges.a in
     let g : SFits w32 c.shifted.result = search rules in
-    let h = simp to_z-of_z at c.in_ok-at.ensures in
+    let h = c.in_ok-extend_from_slice.ensures in
+    let inv = c.loop-i.invariant in
     let e : c.shifted.result ≡ a +ℤ pos i = simp to_z-of_z at c.shifted.ensures in
-    let inv = simp to_z-of_z at c.loop-i.invariant.0 in
-    let p = h.0 ∙ ap (λ z. take c.loop-i.at c.loop-i.out ++ (pos 0 ∷ z ∷ [])) e in (
-      simp to_z-of_z (pair_on _ _ _ _ (row (span (a +ℤ pos (i + 1)) (n - (i + 1)))) (a +ℤ pos i) p (ap row (span_step a i n c.loop-i-test.true)) inv),
-      omega (arith, h.1),
-      omega (arith, h.2, c.append.auto.out),
+    let so = simp to_z-of_z at inv.0 in
+    let l : length (items c.extend_from_slice.new.self) ≡ length (items c.loop-i.table) + 2 = h.len in
+    let p : items c.extend_from_slice.new.self ≡ items c.loop-i.table ++ (pos 0 ∷ (a +ℤ pos i) ∷ []) = h.items ∙ ap (λ z. items c.loop-i.table ++ (pos 0 ∷ z ∷ [])) (to_z-of_z w32 c.shifted.result g ∙ e) in (
+      simp to_z-of_z (pair_on _ _ _ _ (row (span (a +ℤ pos (i + 1)) (n - (i + 1)))) (a +ℤ pos i) p (ap row (span_step a i n c.loop-i-test.true)) so),
+      omega (arith, l, inv.1),
+      h.room ∙ inv.2,
+      h.lent ∙ inv.3,
     )

@@ -1,39 +1,41 @@
-use Rattle.std.proofs.Common.{◌≡◌, ℕ, ◌^◌, ◌<◌, ◌≤◌, length, pos, ap, ◌∙◌, arith, w32, to_z}
-use Rattle.std.proofs.lemmas.List.{length-set}
-use Rattle.std.proofs.lemmas.Result.{MatchResult-weaker}
-use Rattle.std.proofs.lemmas.Int.{to_z-of_z, to_z_pos}
+use Rattle.std.proofs.Common.{◌≡◌, ◌+◌, ◌*◌, ◌<◌, [], ◌∷◌, ◌++◌, length, pos, sym, refl, ap, ◌∙◌, arith, rules}
+use Rattle.std.proofs.lemmas.Result.{MatchResult-from_err}
+use Rattle.std.proofs.lemmas.Int.{to_z-of_z}
 use Rattle.syntax.specs.declared.Collection.TheVariants.{Set}
-use Rattle.values.specs.Value.{cells, of}
-use Rattle.values.specs.Numbers.{span}
+use Rattle.tables.specs.Items.{items, room, loan}
+use Rattle.tables.proofs.Back.{in_front}
+use Rattle.values.specs.Value.{cells, of, row}
+use Rattle.values.specs.Numbers.{span, between}
 use Rattle.sequences.specs.Count.{width}
-use Rattle.sequences.proofs.Rows.{first_two, set_span, long_span}
+use Rattle.sequences.proofs.Rows.{set_span, long_span}
 use Rattle.sequences.proofs.range.Goals as goal
 
-pub returns-then-out-lt2 : goal.returns-then-out-lt2
-returns-then-out-lt2 c =
-    record {
-      inside = tt;
-      made = λ room.
-          let f = c.ranges.a in
-          let g = c.ranges.b in
-          let is : c.wide-count.result ≡ width c.args.a c.args.b = simp to_z-of_z at c.wide-count.ensures.is in
-          let long = long_span c.args.a (width c.args.a c.args.b) in
-          omega (arith, is, long, c.then-out-lt2.either);
-    }
+pub returns-then-count-gt99-clause-made : goal.returns-then-count-gt99-clause-made
+returns-then-count-gt99-clause-made c = λ small.
+    let f = c.ranges.a in
+    let g = c.ranges.b in
+    let is : c.wide-count.result ≡ width c.args.a c.args.b = simp to_z-of_z at c.wide-count.ensures.is in
+    omega (arith, is, long_span c.args.a (width c.args.a c.args.b), c.if-count-gt99.true)
 
-pub returns : goal.returns
-returns c =
+pub returns-in_err-numbers-clause-made : goal.returns-in_err-numbers-clause-made
+returns-in_err-numbers-clause-made c = λ small.
+    MatchResult-from_err _ _ _ c.from_residual-in_err-numbers.ensures.0 (λ _.
+    let f = c.ranges.a in
+    let g = c.ranges.b in
+    let is : c.wide-count.result ≡ width c.args.a c.args.b = simp to_z-of_z at c.wide-count.ensures.is in
+    let i : length (items c.begin.new.table) ≡ 2 = search rules in
+    let r : room c.begin.new.table ≡ length c.args.out.now = search rules in
+    let h : room c.begin.new.table < length (items c.begin.new.table) + 2 * c.wide-count.result = c.in_err-numbers.ensures.made in
+    omega (arith, h, i, r, is, long_span c.args.a (width c.args.a c.args.b)))
+
+pub returns-clause-made : goal.returns-clause-made
+returns-clause-made c = λ small.
     let n = c.wide-count.result in
     let a = c.args.a in
     let f = c.ranges.a in
     let g = c.ranges.b in
-    let h = simp to_z-of_z at c.numbers.ensures in
-    record {
-      inside = MatchResult-weaker c.numbers.result h (λ m p. let l = simp length-set at p.2 in omega (arith, l)) (λ _ _. tt);
-      made = λ room.
-          let is : n ≡ width a c.args.b = simp to_z-of_z at c.wide-count.ensures.is in
-          let few : n < 2 ^ 31 = omega arith in
-          let two : 2 ≤ length c.args.out.now = omega arith in
-          let goal = λ (m : ℕ). length (cells (of Set (span a m))) in
-          MatchResult-weaker c.numbers.result h (λ m p. set_span a n _ _ (to_z w32 n) p.0 (first_two c.args.out.now (pos 2) (to_z w32 n) two) (to_z_pos w32 n few) ∙ ap (λ k. cells (of Set (span a k))) is) (λ _ e. let l = simp length-set at e in omega (arith, l, long_span a n, ap goal is));
-    }
+    let is : n ≡ width a c.args.b = simp to_z-of_z at c.wide-count.ensures.is in
+    let begun : items c.begin.new.table ≡ pos 2 ∷ pos n ∷ [] = c.in_ok-begin.ensures.begun.0 ∙ ap (λ l. l ++ (pos 2 ∷ pos n ∷ [])) c.make-table.ensures.items in
+    let made : items c.numbers.new.table ≡ items c.begin.new.table ++ row (span a n) = simp to_z-of_z at c.in_ok-numbers.ensures.made in
+    let same : loan c.make-table.result ≡ loan c.numbers.new.table = sym (c.in_ok-numbers.ensures.lent ∙ c.in_ok-begin.ensures.lent) in
+    in_front c.numbers.new.table _ (cells (of Set (between a c.args.b))) c.len.result (search rules) c.len.ensures (set_span a n _ _ (pos n) made begun refl ∙ ap (λ k. cells (of Set (span a k))) is)

@@ -16,7 +16,7 @@ pattern-returns-in-AnyPattern t c =
     ]
 
 pub pattern-returns-in-NamePattern : goal.pattern-returns-in-NamePattern
-pattern-returns-in-NamePattern t c = into_pattern _ _ c.in-Some.ensures.some.0 _ (sym c.in-NamePattern.ensures) _ (then_matched (matched c.node.ensures) c.bound.ensures)
+pattern-returns-in-NamePattern t c = into_pattern _ _ c.in-Some.ensures.some.0 _ (sym c.in-NamePattern.ensures) _ (then_matched (matched c.node.ensures) c.pattern_name.ensures)
 
 pub pattern-returns-in-NumeralPattern : goal.pattern-returns-in-NumeralPattern
 pattern-returns-in-NumeralPattern t c =

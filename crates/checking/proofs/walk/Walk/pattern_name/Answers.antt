@@ -4,7 +4,7 @@ use Rattle.reading.specs.Entries.{spelled}
 use Rattle.checking.specs.Sightings.{bound}
 use Rattle.checking.specs.Walk.{bind, see_bound}
 use Rattle.checking.specs.Walked.{text_of, in_sight, noted}
-use Rattle.checking.proofs.walk.Walk.bound.Goals as goal
+use Rattle.checking.proofs.walk.Walk.pattern_name.Goals as goal
 
 pub returns : goal.returns
 returns c =
@@ -15,5 +15,5 @@ returns c =
     record {
       source = c.bind.ensures.source;
       grew = c.bind.ensures.grew;
-      found = c.bind.ensures.found ∙ ap (λ s. record { names = bind (in_sight w) n; seen = s }) (c.bound.ensures ∙ ap (λ ns. see_bound (bound x.place n ns) (noted w)) names);
+      found = c.bind.ensures.found ∙ ap (λ s. record { names = bind (in_sight w) n; seen = s }) (c.pattern_name.ensures ∙ ap (λ ns. see_bound (bound x.place n ns) (noted w)) names);
     }
