@@ -110,7 +110,9 @@ fn pair(out: &mut [i32; 200], kind: Kind, content: i32) -> usize
     ensures is { result ≡ 2 }
     ensures holds { take 2 out.new ≡ cell kind ∷ content ∷ [] }
 {
-    out[..2].copy_from_slice(&[kind as i32, content]);
+    // Cell by cell, which is quicker than a copy of the pair.
+    out[0] = kind as i32;
+    out[1] = content;
     2
 }
 
@@ -131,11 +133,14 @@ fn number(out: &mut [i32; 200], x: Result<i32, Fault>) -> Result<usize, Fault>
     Ok(pair(out, Kind::Number, x?))
 }
 
-/// Whether two values are the same.
+/// Whether two values are the same: numbers and truth values by their two cells.
 fn equal(a: &[i32], b: &[i32]) -> bool
     ensures { result ≡ is_eq (by_cells a.now b.now) }
 {
-    a == b
+    match (a, b) {
+        ([kind, content], [other, same]) => kind == other && content == same,
+        _ => a == b,
+    }
 }
 
 /// The member with the number `n`, counted from 1.

@@ -32,6 +32,15 @@ pub enum Refusal {
     NoSentence(usize),
 }
 
+impl Refusal {
+    /// Its number and place.
+    pub fn told(self) -> Refused
+        ensures { result ≡ told_of self }
+    {
+        self.into()
+    }
+}
+
 impl From<Refusal> for Refused {
     ghost from_gives = { λ e r. r ≡ told_of e };
 

@@ -15,6 +15,9 @@ ghost use Rattle.sequences.specs.Count.{counted, width};
 use tables::{Full, Table};
 use values::{Fault, Kind};
 
+/// How many numbers a set of 200 cells has at most.
+const MOST_NUMBERS: usize = 99;
+
 /// `s` past its first `n` values.
 pub fn skip(n: usize, s: &[i32]) -> &[i32]
     ensures { result.now ≡ past n s.now }
@@ -124,7 +127,7 @@ pub fn range(a: i32, b: i32, out: &mut [i32]) -> Result<usize, Full>
     ensures made { length out.old ≤ 200 → MatchResult result (λ n. take n out.new ≡ cells (of Set (between a b))) (λ _. length out.old < length (cells (of Set (between a b)))) }
 {
     let count = wide(a, b);
-    if count > 99 {
+    if count > MOST_NUMBERS {
         return Err(Full);
     }
     let mut table = Table::make(out);

@@ -4,7 +4,9 @@
 
 ghost use Rattle.std.specs.Prelude.{◌≤◌, length, IfOk};
 
+use arrayvec::ArrayString;
 use reading::{Draft, Entry, Span};
+use std::fmt::Write as _;
 use std::io::{Read, Write};
 use std::{fmt, io};
 use syntax::Refused;
@@ -12,6 +14,9 @@ use writing::write_refused;
 
 /// The most levels that are shown.
 const LEVELS: usize = 64;
+
+/// The most bytes of a node's place and label: the place has up to twenty figures, the label up to sixteen bytes.
+const HEAD_MAX: usize = 37;
 
 /// The most bytes of a refusal's line: its number has up to three figures, its place up to twenty.
 const REFUSAL_MAX: usize = 35;
@@ -183,7 +188,10 @@ impl<'d, W: Write> TreeWriter<'d, W> {
     // The line of a node, without its parts.
     fn head(&mut self, entry: Entry, place: usize) -> io::Result<()> {
         let label = Label(entry);
-        write!(self.out, "{place} {label}")?;
+        // One piece, since each piece is a call of the system. Each head fits, so that this error is never returned.
+        let mut line = ArrayString::<HEAD_MAX>::new();
+        write!(line, "{place} {label}").map_err(|_| io::ErrorKind::WriteZero)?;
+        self.out.write_all(line.as_bytes())?;
         if let Some(Span { place, len }) = spelling_of(entry) {
             if let Some(spelling) = self.draft.text().get(place..place.saturating_add(len)) {
                 write!(self.out, " ")?;

@@ -13,10 +13,14 @@ const INPUT_MAX: usize = 32768;
 const SLOTS: usize = 2048;
 
 // Writes the number of a text, and its refusal or its tree.
-fn answer(rt: &HostRuntime, number: usize, text: &[u8]) -> io::Result<()> {
+fn answer<'t>(
+    rt: &HostRuntime,
+    number: usize,
+    text: &'t [u8],
+    slots: &'t mut [Entry],
+) -> io::Result<()> {
     print!(rt; "{number}: ")?;
-    let mut slots = [Entry::Empty; SLOTS];
-    match read(text, &mut slots) {
+    match read(text, slots) {
         Ok(draft) => {
             let shown = show(rt, &draft, Layout::Nested);
             // A draft is not dropped: it gives its slots back.
@@ -38,7 +42,9 @@ fn answers(rt: &HostRuntime, input: &mut [u8]) -> io::Result<()> {
                     *byte = b'\n';
                 }
             }
-            answer(rt, number, text)?;
+            // Here and not in `answer`: each call of a function clears its locals.
+            let mut slots = [Entry::Empty; SLOTS];
+            answer(rt, number, text, &mut slots)?;
         }
     }
     Ok(())

@@ -92,7 +92,9 @@ pub fn tokenise(text: &[u8], tokens: &mut Table<'_, Token>) -> Result<(), Refusa
     // a `while`, since a turn goes on by as many bytes as its piece has
     let mut place = 0;
     while place < text.len() {
-        let piece = front(&text[place..]).ok_or(Refusal::NoToken(place))?;
+        let Some(piece) = front(&text[place..]) else {
+            return Err(Refusal::NoToken(place));
+        };
         match piece {
             Piece::Skip(len) => place += len,
             Piece::Token(kind, len) => {

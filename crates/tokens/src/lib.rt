@@ -104,10 +104,18 @@ pub enum Refusal {
     NoToken(usize),
 }
 
+impl Refusal {
+    /// Its number and place.
+    pub fn told(self) -> Refused
+        ensures { result ≡ told_of self }
+    {
+        self.into()
+    }
+}
+
 impl From<Refusal> for Refused {
     ghost from_gives = { λ refusal refused. refused ≡ told_of refusal };
 
-    /// Its number and place.
     fn from(refusal: Refusal) -> Refused {
         match refusal {
             Refusal::TooLong => Refused {

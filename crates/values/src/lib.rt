@@ -161,7 +161,12 @@ pub fn begin(table: &mut Table<'_, i32>, kind: Kind, count: usize) -> Result<(),
     let Ok(content) = i32::try_from(count) else {
         return Err(Full);
     };
-    table.extend_from_slice(&[kind as i32, content])
+    if table.remaining() < 2 {
+        return Err(Full);
+    }
+    // Cell by cell, which is quicker than a copy of the pair.
+    table.push(kind as i32)?;
+    table.push(content)
 }
 
 /// Writes `piece` behind the first `n` cells of `out`. Says where it ends.

@@ -27,7 +27,15 @@ pub enum Refusal {
     TooLong,
 }
 
-/// The number by which it is told.
+impl Refusal {
+    /// The number by which it is told.
+    pub fn told(self) -> Refused
+        ensures { result ≡ told_of self }
+    {
+        self.into()
+    }
+}
+
 impl From<Refusal> for Refused {
     ghost from_gives = { λ refusal refused. refused ≡ told_of refusal };
 

@@ -15,5 +15,5 @@ same [] (y ∷ b) = refl
 same (x ∷ a) [] = refl
 same (x ∷ a) (y ∷ b) = ap (λ t. int_eq x y && t) (same a b) ∙ both (int_cmp x y) (by_cells a b)
 
-pub returns : goal.returns
-returns c = c.eq.ensures ∙ same c.args.a.now c.args.b.now
+pub returns-in_default : goal.returns-in_default
+returns-in_default c = c.eq.ensures ∙ same c.args.a.now c.args.b.now

@@ -10,12 +10,12 @@ use Rattle.sequences.specs.Count.{width}
 use Rattle.sequences.proofs.Rows.{set_span, long_span}
 use Rattle.sequences.proofs.range.Goals as goal
 
-pub returns-then-count-gt99-clause-made : goal.returns-then-count-gt99-clause-made
-returns-then-count-gt99-clause-made c = λ small.
+pub returns-then-count-gt-MOST_NUMBERS-clause-made : goal.returns-then-count-gt-MOST_NUMBERS-clause-made
+returns-then-count-gt-MOST_NUMBERS-clause-made c = λ small.
     let f = c.ranges.a in
     let g = c.ranges.b in
     let is : c.wide-count.result ≡ width c.args.a c.args.b = simp to_z-of_z at c.wide-count.ensures.is in
-    omega (arith, is, long_span c.args.a (width c.args.a c.args.b), c.if-count-gt99.true)
+    omega (arith, is, long_span c.args.a (width c.args.a c.args.b), c.if-count-gt-MOST_NUMBERS.true)
 
 pub returns-in_err-numbers-clause-made : goal.returns-in_err-numbers-clause-made
 returns-in_err-numbers-clause-made c = λ small.

@@ -1,10 +1,9 @@
-use Rattle.std.proofs.Common.{◌≡◌, ℕ, ◌-◌, List, length, take, drop, Some, None, Ok, Err, is_ok, true, Option, refl, sym, ap, ◌∙◌, subst, arith, rules}
+use Rattle.std.proofs.Common.{◌≡◌, ℕ, ◌-◌, List, length, take, drop, Some, None, Ok, is_ok, true, Option, refl, ap, ◌∙◌, subst, arith, rules}
 use Rattle.std.proofs.lemmas.List.{take_rest}
-use Rattle.tokens.specs.declared.Refusal.TheVariants.{NoToken}
 use Rattle.tokens.specs.declared.cut.Piece.{Piece}
 use Rattle.tokens.specs.declared.cut.Piece.TheVariants as piece
 use Rattle.tokens.specs.Pieces.{Begins}
-use Rattle.tokens.specs.Cutting.{Skipped, IsPiece, Answers}
+use Rattle.tokens.specs.Cutting.{Skipped, IsPiece}
 use Rattle.tokens.proofs.Forms.{longest_some}
 use Rattle.tokens.proofs.Turns as turn
 use Rattle.tokens.proofs.cut.tokenise.Goals as goal
@@ -14,10 +13,10 @@ here : (text : List ℕ) (n : ℕ) (o p : Option Piece) → IsPiece (take (lengt
 here text n o p h e = subst (IsPiece (drop n text)) e (subst (λ bs. IsPiece bs o) (take_rest text n) h)
 
 skips : (c : goal.In-Skip) → Skipped (drop c.loop-place.place c.args.text.now) c.in-Skip.len
-skips c = here c.args.text.now c.loop-place.place _ (Some (piece.Skip c.in-Skip.len)) c.front.ensures (c.in_ok-piece.ensures.ok_part ∙ ap Some c.in-Skip.is)
+skips c = here c.args.text.now c.loop-place.place _ (Some (piece.Skip c.in-Skip.len)) c.front.ensures (c.in-Some.is ∙ ap Some c.in-Skip.is)
 
 begins : (c : goal.After-unwrap) → Begins c.in-Token.kind (drop c.loop-place.place c.args.text.now) c.in-Token.len
-begins c = here c.args.text.now c.loop-place.place _ (Some (piece.Token c.in-Token.kind c.in-Token.len)) c.front.ensures (c.in_ok-piece.ensures.ok_part ∙ ap Some c.in-Token.is)
+begins c = here c.args.text.now c.loop-place.place _ (Some (piece.Token c.in-Token.kind c.in-Token.len)) c.front.ensures (c.in-Some.is ∙ ap Some c.in-Token.is)
 
 pub loop-place-preserved-in-Skip : goal.loop-place-preserved-in-Skip
 loop-place-preserved-in-Skip c = turn.skipped c.loop-place.invariant c.loop-place-test.true c.in-Skip.len (skips c)
@@ -34,14 +33,12 @@ loop-place-preserved c =
     let ok : is_ok c.push.result ≡ true = ap is_ok c.unwrap.ensures in
     turn.taken c.loop-place.invariant c.loop-place-test.true c.in-Token.kind c.in-Token.len (begins c) (search rules) (search rules)
 
-pub returns-in_err-piece : goal.returns-in_err-piece
-returns-in_err-piece c =
-    let text = c.args.text.now in
-    let place = c.loop-place.place in
-    let r : c.from_residual.result ≡ Err (NoToken place) = search rules in
-    turn.ends c.loop-place.invariant (Some place) c.from_residual.result
-    (turn.stopped c.loop-place.invariant c.loop-place-test.true (here text place _ None c.front.ensures c.in_err-piece.ensures.ok_part))
-    (subst (Answers (Some place)) (sym r) refl) (omega (arith, c.if-text-remaining.false, c.remaining.ensures))
+pub returns-in_default : goal.returns-in_default
+returns-in_default c =
+    let none : c.front.result ≡ None = search rules in
+    turn.ends c.loop-place.invariant (Some c.loop-place.place) _
+    (turn.stopped c.loop-place.invariant c.loop-place-test.true (here c.args.text.now c.loop-place.place _ None c.front.ensures none))
+    refl (omega (arith, c.if-text-remaining.false, c.remaining.ensures))
 
 pub returns : goal.returns
 returns c =
